@@ -1,0 +1,4 @@
+pub mod Granule
+pub mod MapWord
+pub mod FrameWord
+pub mod Register
