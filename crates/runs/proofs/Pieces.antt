@@ -1,0 +1,47 @@
+-- A range call that tells of at most `limit` single steps, carried on over any list of pieces, ends as the steps taken singly at their sum.
+-- Each call does at least one step or refuses, so a piece of m needs at most m calls, and fuel does not run out.
+use mathlib.Core.Path.{_≡_, refl, sym, ap, fun-ext, _∙_}
+use mathlib.Core.List.{List, [], _∷_}
+use Prim.Native.Nat.{ℕ, zero, suc, _+_, _-_, _≤_, min}
+use native.Mathlib.Nat.{le-refl, sub-zero}
+use native.Mathlib.Omega.{arith}
+use Rattle.runs.specs.Run.{Step, took, refuses, Stop, complete, refused, outOfFuel, End, ended, sum, oneMore, after, onward, run, told, rangeCall, goOn, carryOn, andThen, pieces, stopOf}
+use Rattle.runs.proofs.Runs.{resume, resume-one, resumes, joins, run-fuelled}
+
+module _ {S R : Type 0} (step : S → Step S R) (limit : ℕ) (some : 1 ≤ limit) (call : ℕ → S → End S R)
+    (law : (m : ℕ) (s : S) → 1 ≤ m → call m s ≡ rangeCall step limit m s) where
+  -- what is left after a call of a piece of m + 1 whose run was cut at n + 1 steps
+  rest : (f n m : ℕ) (s : S) → n ≤ m → m ≤ f → ((k : ℕ) (t : S) → k ≤ f → carryOn call f k t ≡ run step k t) → (o : Step S R) → step s ≡ o
+      → goOn (λ k t. carryOn call f k t) (suc m) (told (onward (λ t. run step n t) s o)) ≡ onward (λ t. run step m t) s o
+  rest f n m s h hf ih (took t) e = again (run step n t) ∙ resume-one step m (run step n t) ∙ ap oneMore (resumes step n m t h)
+    where
+      again : (e : End S R) → goOn (λ k t. carryOn call f k t) (suc m) (told (oneMore e)) ≡ resume step (suc m) (oneMore e)
+      again (ended k u r) = ap (after (suc k)) (ih (suc m - suc k) u (omega arith))
+  rest f n m s h hf ih (refuses r) e = refl
+
+  -- a piece carried on ends as its steps taken singly
+  pub carried : (f m : ℕ) (s : S) → m ≤ f → carryOn call f m s ≡ run step m s
+  carried zero zero s h = refl
+  carried zero (suc m) s h = absurd (omega arith)
+  carried (suc f) zero s h = refl
+  carried (suc f) (suc m) s h =
+      let cut : min limit (suc m) ≡ suc (min limit (suc m) - 1) = omega arith in
+      rw (law (suc m) s (omega arith), cut) (rest f (min limit (suc m) - 1) m s (omega arith) (omega arith) (λ k t. carried f k t) (step s) refl)
+
+  -- every list of pieces ends as the single steps at the sum: steps done, state and refusal
+  pub pieces-run : (ms : List ℕ) (s : S) → pieces call ms s ≡ run step (sum ms) s
+  pieces-run [] s = refl
+  pieces-run (m ∷ ms) s = on (λ t. pieces-run ms t)
+    where
+      on : ((t : S) → pieces call ms t ≡ run step (sum ms) t) → pieces call (m ∷ ms) s ≡ run step (m + sum ms) s
+      on ih = rw (carried m m s (le-refl m)) (ap (andThen (run step m s)) (fun-ext ih) ∙ joins step m (sum ms) s)
+
+  -- and so no list of pieces runs out of fuel
+  pub pieces-fuelled : (ms : List ℕ) (s : S) → stopOf (pieces call ms s) ≡ outOfFuel → ⊥
+  pieces-fuelled ms s e = run-fuelled step (sum ms) s (sym (ap stopOf (pieces-run ms s)) ∙ e)
+
+module _ {S R : Type 0} where
+  -- a call that does nothing and does not refuse is no success: its piece is out of fuel, however much it had
+  pub no-progress : (f m : ℕ) (s : S) → carryOn {S = S} {R = R} (λ k t. ended 0 t complete) f (suc m) s ≡ ended 0 s outOfFuel
+  no-progress zero m s = refl
+  no-progress (suc f) m s = rw (sub-zero, no-progress f m s)
