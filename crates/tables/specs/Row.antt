@@ -1,0 +1,23 @@
+-- Document 01, "Tables": "slot v's row starts at word v × W and covers granules 0 to W − 1 of its guest address space".
+use mathlib.Core.Bool.{cond}
+use mathlib.Core.List.{List}
+use Prim.Native.Nat.{ℕ, _+_, _*_, _-_}
+use lib.Dec.{ltb}
+use lib.ListN.{length, getD, take, drop}
+use Rattle.tables.specs.Length.{widthOf}
+use Rattle.tables.specs.declared.rows.RowBounds.{RowBounds}
+
+abbrev pub bounds : ℕ → ℕ → RowBounds
+bounds a e = record { start = a; end = e }
+
+-- slot v's row in a map table of n words; "there are 8 guest slots, 0 to 7", and another has none
+unfoldable pub boundsOf : ℕ → ℕ → RowBounds
+boundsOf n v = cond (ltb v 8) (bounds (v * widthOf n) (v * widthOf n + widthOf n)) (bounds 0 0)
+
+-- the row as a part of the map table
+abbrev pub rowOf : List ℕ → ℕ → List ℕ
+rowOf map v = let r = boundsOf (length map) v in take (r .end - r .start) (drop (r .start) map)
+
+-- the word of granule g in slot v's row
+abbrev pub wordAt : List ℕ → ℕ → ℕ → ℕ
+wordAt map v g = getD map (v * widthOf (length map) + g) 0

@@ -1,0 +1,35 @@
+ghost use mathlib.Core.Path.{_≡_};
+ghost use lib.ListN.{length};
+ghost use Rattle.tables.specs.Row.{boundsOf, rowOf};
+
+// Where a slot's row stands in a map table: from word `start` to before word `end`.
+pub struct RowBounds {
+    pub start: usize,
+    pub end: usize,
+}
+
+// The row of a slot in a map table of this many words. A slot above 7 has an empty row.
+pub fn row_bounds(words: usize, slot: u64) -> RowBounds
+    ensures { λ r. ⌜ r ≡ boundsOf words slot ⌝ }
+{
+    if slot < 8 {
+        let width = words / 8;
+        let start = (slot as usize) * width;
+        RowBounds {
+            start,
+            end: start + width,
+        }
+    } else {
+        RowBounds { start: 0, end: 0 }
+    }
+}
+
+// The row itself, as that part of the map table.
+pub fn row(map: &[u32], slot: u64) -> &[u32]
+    ensures { λ r. ⌜ now r ≡ rowOf (now (map .entry)) slot ⌝ }
+{
+    let at = row_bounds(map.len(), slot);
+    let start = at.start;
+    let end = at.end;
+    &map[start..end]
+}
