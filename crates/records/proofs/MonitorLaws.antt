@@ -1,0 +1,40 @@
+-- What is read of the state after a record was put in, and of the fresh state.
+use mathlib.Core.Path.{_≡_, refl}
+use mathlib.Core.Logic.{_≢_}
+use Prim.Native.Nat.{ℕ, _<_}
+use native.Mathlib.Decide.{decLt}
+use native.Mathlib.Omega.{arith}
+use borrow.Author.Tests.{lt-ltb, le-ltb}
+use lib.ListN.{length, getD, set, length-set, getD-replicate}
+use lib.Seq.{getD-set-same, getD-set-other}
+use Rattle.records.specs.Monitor.{zeroGuest, fresh, guestOf, withGuest}
+use Rattle.records.specs.declared.guest.Guest.{Guest}
+use Rattle.records.specs.declared.monitor.Monitor.{Monitor}
+
+pub guest-put : (m : Monitor) (v : ℕ) (g : Guest) → length (m .guests) ≡ 8 → v < 8 → guestOf (withGuest m v g) v ≡ g
+unfolding guestOf withGuest
+guest-put m v g e h = let l : v < length (m .guests) = omega arith in rw (lt-ltb v 8 h) (getD-set-same (m .guests) v g zeroGuest l)
+
+pub guest-other : (m : Monitor) (v u : ℕ) (g : Guest) → u ≢ v → guestOf (withGuest m v g) u ≡ guestOf m u
+unfolding guestOf withGuest
+guest-other m v u g n = go (decLt v 8)
+  where
+    go : Dec (v < 8) → guestOf (withGuest m v g) u ≡ guestOf m u
+    go (yes h) = rw (lt-ltb v 8 h, getD-set-other (m .guests) v u g zeroGuest n)
+    go (no h) = rw (le-ltb v 8 (omega arith))
+
+pub guests-kept : (m : Monitor) (v : ℕ) (g : Guest) → length (withGuest m v g .guests) ≡ length (m .guests)
+unfolding withGuest
+guests-kept m v g = go (decLt v 8)
+  where
+    go : Dec (v < 8) → length (withGuest m v g .guests) ≡ length (m .guests)
+    go (yes h) = rw (lt-ltb v 8 h) (length-set (m .guests) v g)
+    go (no h) = rw (le-ltb v 8 (omega arith))
+
+pub guest-fresh : (v : ℕ) → guestOf fresh v ≡ zeroGuest
+unfolding guestOf
+guest-fresh v = go (decLt v 8)
+  where
+    go : Dec (v < 8) → guestOf fresh v ≡ zeroGuest
+    go (yes h) = rw (lt-ltb v 8 h) (getD-replicate {A = Guest} 8 v zeroGuest zeroGuest h)
+    go (no h) = rw (le-ltb v 8 (omega arith))

@@ -1,0 +1,22 @@
+-- Document 01, "Tables": "The state keeps the guest record of each of eight slots: live, run, enrolled and three feature bitmaps."
+use mathlib.Core.Bool.{false, cond}
+use Prim.Native.Nat.{ℕ}
+use lib.Dec.{ltb}
+use lib.ListN.{getD, set, replicate}
+use Rattle.records.specs.declared.guest.Guest.{Guest}
+use Rattle.records.specs.declared.monitor.Monitor.{Monitor}
+
+abbrev pub zeroGuest : Guest
+zeroGuest = record { live = false; run = false; enrolled = false; std = 0; «std_hyp» = 0; «vendor_hyp» = 0 }
+
+-- "Fresh tables and records are all zero."
+abbrev pub fresh : Monitor
+fresh = record { guests = replicate 8 zeroGuest }
+
+-- the record of slot v; "there are 8 guest slots, 0 to 7", and another has no guest
+unfoldable pub guestOf : Monitor → ℕ → Guest
+guestOf m v = cond (ltb v 8) (getD (m .guests) v zeroGuest) zeroGuest
+
+-- the state with slot v's record put in; where there is no such slot, nothing changes
+unfoldable pub withGuest : Monitor → ℕ → Guest → Monitor
+withGuest m v g = cond (ltb v 8) (record { guests = set (m .guests) v g }) m

@@ -1,0 +1,28 @@
+ghost use mathlib.Core.Path.{_≡_};
+ghost use Rattle.records.specs.Monitor.{zeroGuest};
+
+// The record of a guest slot. A slot that is not live has no guest, whatever else its record holds.
+pub struct Guest {
+    pub live: bool,
+    pub run: bool,
+    pub enrolled: bool,
+    pub std: u64,
+    pub std_hyp: u64,
+    pub vendor_hyp: u64,
+}
+
+impl Guest {
+    // The record of no guest, as in fresh records and after a removal.
+    pub fn zero() -> Guest
+        ensures { λ r. ⌜ r ≡ zeroGuest ⌝ }
+    {
+        Guest {
+            live: false,
+            run: false,
+            enrolled: false,
+            std: 0,
+            std_hyp: 0,
+            vendor_hyp: 0,
+        }
+    }
+}
