@@ -1,11 +1,11 @@
 -- What is read of the state after a record was put in, and of the fresh state.
-use mathlib.Core.Path.{_≡_, refl}
+use mathlib.Core.Path.{_≡_}
 use mathlib.Core.Logic.{_≢_}
 use Prim.Native.Nat.{ℕ, _<_}
 use native.Mathlib.Decide.{decLt}
 use native.Mathlib.Omega.{arith}
 use borrow.Author.Tests.{lt-ltb, le-ltb}
-use lib.ListN.{length, getD, set, length-set, getD-replicate}
+use lib.ListN.{length, length-set, getD-replicate}
 use lib.Seq.{getD-set-same, getD-set-other}
 use Rattle.records.specs.Monitor.{zeroGuest, fresh, guestOf, withGuest}
 use Rattle.records.specs.declared.guest.Guest.{Guest}

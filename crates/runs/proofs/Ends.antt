@@ -1,6 +1,6 @@
 -- Counting steps done before an end.
 use mathlib.Core.Path.{_≡_}
-use Prim.Native.Nat.{ℕ, suc, _+_}
+use Prim.Native.Nat.{ℕ, suc}
 use native.Mathlib.Nat.{zero-add, suc-add}
 use Rattle.runs.specs.Run.{End, ended, oneMore, after}
 

@@ -1,8 +1,8 @@
 -- Tests before a step that stay passed while the run goes on need testing only once.
 use mathlib.Core.Path.{_≡_, refl, ap}
-use mathlib.Core.Option.{Option, none, some}
+use mathlib.Core.Option.{Option, none}
 use Prim.Native.Nat.{ℕ, zero, suc}
-use Rattle.runs.specs.Run.{Step, took, refuses, End, oneMore, onward, run, gate}
+use Rattle.runs.specs.Run.{Step, took, refuses, oneMore, onward, run, gate}
 
 module _ {S R : Type 0} (tests : S → Option R) (step : S → Step S R)
     (stays : (s t : S) → tests s ≡ none → step s ≡ took t → tests t ≡ none) where

@@ -5,7 +5,7 @@ use mathlib.Core.List.{List, [], _∷_}
 use Prim.Native.Nat.{ℕ, zero, suc, _+_, _-_, _≤_, min}
 use native.Mathlib.Nat.{le-refl, sub-zero}
 use native.Mathlib.Omega.{arith}
-use Rattle.runs.specs.Run.{Step, took, refuses, Stop, complete, refused, outOfFuel, End, ended, sum, oneMore, after, onward, run, told, rangeCall, goOn, carryOn, andThen, pieces, stopOf}
+use Rattle.runs.specs.Run.{Step, took, refuses, complete, outOfFuel, End, ended, sum, oneMore, after, onward, run, told, rangeCall, goOn, carryOn, andThen, pieces, stopOf}
 use Rattle.runs.proofs.Runs.{resume, resume-one, resumes, joins, run-fuelled}
 
 module _ {S R : Type 0} (step : S → Step S R) (limit : ℕ) (some : 1 ≤ limit) (call : ℕ → S → End S R)

@@ -3,7 +3,7 @@ use mathlib.Core.Path.{_≡_, refl, sym, ap, _∙_}
 use Prim.Native.Nat.{ℕ, zero, suc, _+_, _-_, _≤_}
 use native.Mathlib.Nat.{sub-zero, zero-add, suc-add, suc-sub-suc}
 use native.Mathlib.Omega.{arith}
-use Rattle.runs.specs.Run.{Step, took, refuses, Stop, complete, refused, outOfFuel, End, ended, oneMore, after, onward, run, andThen, countOf, stopOf}
+use Rattle.runs.specs.Run.{Step, took, refuses, complete, refused, outOfFuel, End, ended, oneMore, after, onward, run, andThen, countOf, stopOf}
 use Rattle.runs.proofs.Ends.{after-zero, after-suc}
 
 module _ {S R : Type 0} (step : S → Step S R) where

@@ -1,3 +1,4 @@
 pub mod RowLaws
 pub mod PairLaws
+pub mod Found
 pub mod Locality

@@ -1,5 +1,5 @@
 -- "What any third word names doesn't count": a pair test sees the word that it looks from, the word that this names, and the lengths.
-use mathlib.Core.Path.{_≡_, refl, ap, _∙_}
+use mathlib.Core.Path.{_≡_, refl}
 use mathlib.Core.Bool.{Bool}
 use mathlib.Core.List.{List}
 use Prim.Native.Nat.{ℕ}

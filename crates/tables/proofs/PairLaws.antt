@@ -1,5 +1,5 @@
 -- How the pair tests come out, by the tests that are made on the way.
-use mathlib.Core.Path.{_≡_, refl, sym, _∙_}
+use mathlib.Core.Path.{_≡_}
 use mathlib.Core.Bool.{Bool, true, false}
 use mathlib.Core.List.{List}
 use Prim.Native.Nat.{ℕ, _<_, _≤_}
@@ -16,9 +16,7 @@ use Rattle.words.proofs.FrameWordLaws.{frame-fits}
 use Rattle.tables.specs.Length.{widthOf}
 use Rattle.tables.specs.Row.{rowOf, wordAt}
 use Rattle.tables.specs.Pair.{granuleState, pairAt, frameState, pairOf}
-use Rattle.tables.specs.declared.pairs.GranuleState.{GranuleState}
 use Rattle.tables.specs.declared.pairs.GranuleState.the-variants as granule-state
-use Rattle.tables.specs.declared.pairs.FrameState.{FrameState}
 use Rattle.tables.specs.declared.pairs.FrameState.the-variants as frame-state
 use Rattle.tables.proofs.RowLaws.{in-row, off-row}
 

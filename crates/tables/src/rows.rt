@@ -1,5 +1,4 @@
 ghost use mathlib.Core.Path.{_≡_};
-ghost use lib.ListN.{length};
 ghost use Rattle.tables.specs.Row.{boundsOf, rowOf};
 
 // Where a slot's row stands in a map table: from word `start` to before word `end`.

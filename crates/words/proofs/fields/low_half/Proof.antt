@@ -1,7 +1,5 @@
 -- A mask of 16 ones is the remainder by 2 ^ 16.
 use native.Mathlib.Omega.{arith}
-use Prim.Native.Nat.{_%_, _^_}
-use mathlib.Core.Path.{_≡_}
 use lib.Bits.{and-mask, mask-lt}
 use Rattle.words.proofs.fields.low_half.Statement.{statement}
 use Rattle.words.proofs.fields.low_half.Tie as tie

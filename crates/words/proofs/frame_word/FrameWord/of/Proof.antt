@@ -3,7 +3,7 @@ use mathlib.Core.Path.{_≡_}
 use Prim.Native.Nat.{_/_, _%_, _^_}
 use native.Mathlib.Omega.{arith}
 use lib.Bits.{bitAnd, and-mask}
-use borrow.Author.Tests.{eq-eqb, ne-eqb}
+use borrow.Author.Tests.{eq-eqb}
 use Rattle.words.specs.FrameWord.{frameWordOf}
 use Rattle.words.proofs.FrameWordLaws.{owner-damaged, owner-named}
 use borrow.Author.Needs.{needs}

@@ -1,8 +1,6 @@
 -- Three fields side by side are a sum.
 use Prim.Native.Nat.{_+_, _*_, _≤_, _^_}
 use native.Mathlib.Omega.{arith}
-use mathlib.Core.Path.{_≡_}
-use mir.Val.{boolByte}
 use Rattle.words.specs.FrameWord.{frameBits, sharingByte}
 use Rattle.words.proofs.Packing.{packed}
 use Rattle.words.proofs.FrameWordLaws.{sharing-bit, sharing-cast}

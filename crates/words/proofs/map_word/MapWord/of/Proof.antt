@@ -1,5 +1,4 @@
 -- Each case by the tests that led to it.
-use mathlib.Core.Path.{sym}
 use Prim.Native.Nat.{_/_, _^_}
 use native.Mathlib.Omega.{arith}
 use borrow.Author.Tests.{eq-eqb, ne-eqb}

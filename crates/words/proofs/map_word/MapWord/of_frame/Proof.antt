@@ -1,7 +1,5 @@
 -- The kind above the frame is a sum.
-use Prim.Native.Nat.{_+_, _*_, _^_}
 use native.Mathlib.Omega.{arith}
-use Rattle.words.specs.MapWord.{mapBits}
 use Rattle.words.proofs.MapWordLaws.{frame-bits, kind-few}
 use borrow.Author.Needs.{needs}
 use Rattle.words.proofs.map_word.MapWord.of_frame.Statement.{statement}

@@ -1,0 +1,91 @@
+-- What holds where a pair test finds something: the word that it looked from says so, and a partner that it names says it back.
+use mathlib.Core.Path.{_≡_, refl}
+use mathlib.Core.Bool.{Bool, true, false, cond, _&&_}
+use mathlib.Core.List.{List}
+use Prim.Native.Nat.{ℕ, _<_}
+use lib.Dec.{ltb}
+use borrow.Author.Tests.{ltb-true}
+use lib.ListN.{length, getD}
+use Rattle.words.specs.MapWord.{mapWordOf, namesFrame}
+use Rattle.words.specs.FrameWord.{frameWordOf, namesGranule}
+use Rattle.words.specs.declared.map_word.MapWord.{MapWord}
+use Rattle.words.specs.declared.map_word.MapWord.the-variants as map-word
+use Rattle.words.specs.declared.frame_word.FrameWord.{FrameWord}
+use Rattle.words.specs.declared.frame_word.FrameWord.the-variants as frame-word
+use Rattle.words.proofs.Booleans.{both-true}
+use Rattle.words.proofs.MapWordLaws.{named-frame}
+use Rattle.words.proofs.FrameWordLaws.{named-granule}
+use Rattle.tables.specs.Length.{widthOf}
+use Rattle.tables.specs.Row.{wordAt}
+use Rattle.tables.specs.Pair.{granuleState, pairAt, frameState, pairOf}
+use Rattle.tables.specs.declared.pairs.GranuleState.{GranuleState}
+use Rattle.tables.specs.declared.pairs.GranuleState.the-variants as granule-state
+use Rattle.tables.specs.declared.pairs.FrameState.{FrameState}
+use Rattle.tables.specs.declared.pairs.FrameState.the-variants as frame-state
+
+-- a test that gives x or y gave y only if it gave no x; where it did not give y, it passed
+passed : {A : Type 0} (b : Bool) (x y : A) → (cond b x y ≡ y → ⊥) → b ≡ true
+passed true x y n = refl
+passed false x y n = absurd (n refl)
+
+-- what a map word says, as a granule's state
+abbrev pub saidByMap : MapWord → GranuleState
+saidByMap map-word.Vacant = granule-state.Vacant
+saidByMap (map-word.Frame s f) = granule-state.Frame s f
+saidByMap map-word.Guarded = granule-state.Guarded
+saidByMap map-word.Damaged = granule-state.Damaged
+
+-- what a frame word says, as a frame's state
+abbrev pub saidByFrame : FrameWord → FrameState
+saidByFrame frame-word.Host = frame-state.Host
+saidByFrame frame-word.Waiting = frame-state.Waiting
+saidByFrame (frame-word.Owned v s g) = frame-state.Owned v s g
+saidByFrame frame-word.Damaged = frame-state.Damaged
+
+-- granule g of slot v, by what its map word says
+module _ (frames : List ℕ) (v g : ℕ) where
+  pub granule-said : (d : MapWord) → (granuleState frames v g d ≡ granule-state.Damaged → ⊥) → granuleState frames v g d ≡ saidByMap d
+  unfolding granuleState
+  granule-said map-word.Vacant n = refl
+  granule-said (map-word.Frame s f) n =
+      rw (passed (ltb f (length frames) && namesGranule v s g (frameWordOf (getD frames f 0))) (granule-state.Frame s f) granule-state.Damaged n)
+  granule-said map-word.Guarded n = refl
+  granule-said map-word.Damaged n = refl
+
+  pub granule-names : (s : Bool) (f : ℕ) → (granuleState frames v g (map-word.Frame s f) ≡ granule-state.Damaged → ⊥)
+      → (f < length frames) × (frameWordOf (getD frames f 0) ≡ frame-word.Owned v s g)
+  unfolding granuleState
+  granule-names s f n =
+      let named = namesGranule v s g (frameWordOf (getD frames f 0)) in
+      let p = both-true (ltb f (length frames)) named (passed (ltb f (length frames) && named) (granule-state.Frame s f) granule-state.Damaged n) in
+      (ltb-true f (length frames) (p .0), named-granule v s g (frameWordOf (getD frames f 0)) (p .1))
+
+-- frame f, by what its frame word says
+module _ (map : List ℕ) (f : ℕ) where
+  pub frame-said : (d : FrameWord) → (frameState map f d ≡ frame-state.Damaged → ⊥) → frameState map f d ≡ saidByFrame d
+  unfolding frameState
+  frame-said frame-word.Host n = refl
+  frame-said frame-word.Waiting n = refl
+  frame-said (frame-word.Owned v s g) n =
+      rw (passed (ltb g (widthOf (length map)) && namesFrame s f (mapWordOf (wordAt map v g))) (frame-state.Owned v s g) frame-state.Damaged n)
+  frame-said frame-word.Damaged n = refl
+
+  pub frame-names : (v g : ℕ) (s : Bool) → (frameState map f (frame-word.Owned v s g) ≡ frame-state.Damaged → ⊥)
+      → (g < widthOf (length map)) × (mapWordOf (wordAt map v g) ≡ map-word.Frame s f)
+  unfolding frameState
+  frame-names v g s n =
+      let named = namesFrame s f (mapWordOf (wordAt map v g)) in
+      let p = both-true (ltb g (widthOf (length map))) named (passed (ltb g (widthOf (length map)) && named) (frame-state.Owned v s g) frame-state.Damaged n) in
+      (ltb-true g (widthOf (length map)) (p .0), named-frame s f (mapWordOf (wordAt map v g)) (p .1))
+
+-- where a pair test from a table finds something, its numbers are in range
+module _ (frames map : List ℕ) where
+  pub granule-there : (v g : ℕ) → (pairAt frames map v g ≡ granule-state.Damaged → ⊥) → (v < 8) × (g < widthOf (length map))
+  unfolding pairAt
+  granule-there v g n =
+      let p = both-true (ltb v 8) (ltb g (widthOf (length map))) (passed (ltb v 8 && ltb g (widthOf (length map))) (granuleState frames v g (mapWordOf (wordAt map v g))) granule-state.Damaged n) in
+      (ltb-true v 8 (p .0), ltb-true g (widthOf (length map)) (p .1))
+
+  pub frame-there : (f : ℕ) → (pairOf frames map f ≡ frame-state.Damaged → ⊥) → f < length frames
+  unfolding pairOf
+  frame-there f n = ltb-true f (length frames) (passed (ltb f (length frames)) (frameState map f (frameWordOf (getD frames f 0))) frame-state.Damaged n)
