@@ -1,8 +1,9 @@
 -- What holds where a pair test finds something: the word that it looked from says so, and a partner that it names says it back.
-use mathlib.Core.Path.{_≡_, refl}
+use mathlib.Core.Path.{_≡_, refl, _∙_}
 use mathlib.Core.Bool.{Bool, true, false, cond, _&&_}
 use mathlib.Core.List.{List}
 use Prim.Native.Nat.{ℕ, _<_}
+use native.Mathlib.Omega.{arith}
 use lib.Dec.{ltb}
 use borrow.Author.Tests.{ltb-true}
 use lib.ListN.{length, getD}
@@ -28,54 +29,55 @@ passed : {A : Type 0} (b : Bool) (x y : A) → (cond b x y ≡ y → ⊥) → b 
 passed true x y n = refl
 passed false x y n = absurd (n refl)
 
--- what a map word says, as a granule's state
-abbrev pub saidByMap : MapWord → GranuleState
-saidByMap map-word.Vacant = granule-state.Vacant
-saidByMap (map-word.Frame s f) = granule-state.Frame s f
-saidByMap map-word.Guarded = granule-state.Guarded
-saidByMap map-word.Damaged = granule-state.Damaged
+-- the word that a state which is not damaged was found by
+abbrev pub mapWordBy : GranuleState → MapWord
+mapWordBy granule-state.Vacant = map-word.Vacant
+mapWordBy (granule-state.Frame s f) = map-word.Frame s f
+mapWordBy granule-state.Guarded = map-word.Guarded
+mapWordBy granule-state.Damaged = map-word.Damaged
 
--- what a frame word says, as a frame's state
-abbrev pub saidByFrame : FrameWord → FrameState
-saidByFrame frame-word.Host = frame-state.Host
-saidByFrame frame-word.Waiting = frame-state.Waiting
-saidByFrame (frame-word.Owned v s g) = frame-state.Owned v s g
-saidByFrame frame-word.Damaged = frame-state.Damaged
+abbrev pub frameWordBy : FrameState → FrameWord
+frameWordBy frame-state.Host = frame-word.Host
+frameWordBy frame-state.Waiting = frame-word.Waiting
+frameWordBy (frame-state.Owned v s g) = frame-word.Owned v s g
+frameWordBy frame-state.Damaged = frame-word.Damaged
 
 -- granule g of slot v, by what its map word says
 module _ (frames : List ℕ) (v g : ℕ) where
-  pub granule-said : (d : MapWord) → (granuleState frames v g d ≡ granule-state.Damaged → ⊥) → granuleState frames v g d ≡ saidByMap d
+  pub granule-says : (d : MapWord) (k : GranuleState) → k ≡ granuleState frames v g d → (k ≡ granule-state.Damaged → ⊥) → d ≡ mapWordBy k
   unfolding granuleState
-  granule-said map-word.Vacant n = refl
-  granule-said (map-word.Frame s f) n =
-      rw (passed (ltb f (length frames) && namesGranule v s g (frameWordOf (getD frames f 0))) (granule-state.Frame s f) granule-state.Damaged n)
-  granule-said map-word.Guarded n = refl
-  granule-said map-word.Damaged n = refl
+  granule-says map-word.Vacant k e n = rw e
+  granule-says (map-word.Frame s f) k e n =
+      rw (e, passed (ltb f (length frames) && namesGranule v s g (frameWordOf (getD frames f 0))) (granule-state.Frame s f) granule-state.Damaged (λ q. n (e ∙ q)))
+  granule-says map-word.Guarded k e n = rw e
+  granule-says map-word.Damaged k e n = rw e
 
-  pub granule-names : (s : Bool) (f : ℕ) → (granuleState frames v g (map-word.Frame s f) ≡ granule-state.Damaged → ⊥)
+  pub granule-names : (s : Bool) (f : ℕ) → granule-state.Frame s f ≡ granuleState frames v g (map-word.Frame s f)
       → (f < length frames) × (frameWordOf (getD frames f 0) ≡ frame-word.Owned v s g)
   unfolding granuleState
-  granule-names s f n =
+  granule-names s f e =
       let named = namesGranule v s g (frameWordOf (getD frames f 0)) in
-      let p = both-true (ltb f (length frames)) named (passed (ltb f (length frames) && named) (granule-state.Frame s f) granule-state.Damaged n) in
+      let t = passed (ltb f (length frames) && named) (granule-state.Frame s f) granule-state.Damaged (λ q. let z : _≡_ {A = ℕ} 0 1 = cc in omega arith) in
+      let p = both-true (ltb f (length frames)) named t in
       (ltb-true f (length frames) (p .0), named-granule v s g (frameWordOf (getD frames f 0)) (p .1))
 
 -- frame f, by what its frame word says
 module _ (map : List ℕ) (f : ℕ) where
-  pub frame-said : (d : FrameWord) → (frameState map f d ≡ frame-state.Damaged → ⊥) → frameState map f d ≡ saidByFrame d
+  pub frame-says : (d : FrameWord) (k : FrameState) → k ≡ frameState map f d → (k ≡ frame-state.Damaged → ⊥) → d ≡ frameWordBy k
   unfolding frameState
-  frame-said frame-word.Host n = refl
-  frame-said frame-word.Waiting n = refl
-  frame-said (frame-word.Owned v s g) n =
-      rw (passed (ltb g (widthOf (length map)) && namesFrame s f (mapWordOf (wordAt map v g))) (frame-state.Owned v s g) frame-state.Damaged n)
-  frame-said frame-word.Damaged n = refl
+  frame-says frame-word.Host k e n = rw e
+  frame-says frame-word.Waiting k e n = rw e
+  frame-says (frame-word.Owned v s g) k e n =
+      rw (e, passed (ltb g (widthOf (length map)) && namesFrame s f (mapWordOf (wordAt map v g))) (frame-state.Owned v s g) frame-state.Damaged (λ q. n (e ∙ q)))
+  frame-says frame-word.Damaged k e n = rw e
 
-  pub frame-names : (v g : ℕ) (s : Bool) → (frameState map f (frame-word.Owned v s g) ≡ frame-state.Damaged → ⊥)
+  pub frame-names : (v g : ℕ) (s : Bool) → frame-state.Owned v s g ≡ frameState map f (frame-word.Owned v s g)
       → (g < widthOf (length map)) × (mapWordOf (wordAt map v g) ≡ map-word.Frame s f)
   unfolding frameState
-  frame-names v g s n =
+  frame-names v g s e =
       let named = namesFrame s f (mapWordOf (wordAt map v g)) in
-      let p = both-true (ltb g (widthOf (length map))) named (passed (ltb g (widthOf (length map)) && named) (frame-state.Owned v s g) frame-state.Damaged n) in
+      let t = passed (ltb g (widthOf (length map)) && named) (frame-state.Owned v s g) frame-state.Damaged (λ q. let z : _≡_ {A = ℕ} 0 1 = cc in omega arith) in
+      let p = both-true (ltb g (widthOf (length map))) named t in
       (ltb-true g (widthOf (length map)) (p .0), named-frame s f (mapWordOf (wordAt map v g)) (p .1))
 
 -- where a pair test from a table finds something, its numbers are in range
