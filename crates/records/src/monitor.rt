@@ -30,8 +30,8 @@ impl Monitor {
     {
         let guests = self.guests;
         if slot < 8 {
-            let i = slot as usize;
-            guests[i]
+            let at = slot as usize;
+            guests[at]
         } else {
             Guest::zero()
         }
@@ -41,10 +41,11 @@ impl Monitor {
     pub fn with_guest(mut self, slot: u64, guest: Guest) -> Monitor
         ensures { λ r. ⌜ r ≡ withGuest self slot guest ⌝ }
     {
-        if slot < 8 {
-            let i = slot as usize;
-            self.guests[i] = guest;
+        if 8 <= slot {
+            return self;
         }
+        let at = slot as usize;
+        self.guests[at] = guest;
         self
     }
 }

@@ -2,3 +2,4 @@ pub mod RowLaws
 pub mod PairLaws
 pub mod Found
 pub mod Locality
+pub mod Cases

@@ -5,3 +5,4 @@ pub mod WordTest
 pub mod MapWordLaws
 pub mod FrameWordLaws
 pub mod RegisterLaws
+pub mod Cases
