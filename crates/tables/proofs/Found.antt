@@ -18,7 +18,7 @@ use Rattle.words.proofs.MapWordLaws.{named-frame}
 use Rattle.words.proofs.FrameWordLaws.{named-granule}
 use Rattle.tables.specs.Length.{widthOf}
 use Rattle.tables.specs.Row.{wordAt}
-use Rattle.tables.specs.Pair.{granuleState, pairAt, frameState, pairOf}
+use Rattle.tables.specs.Pair.{frameNamesBack, granuleState, pairAt, granuleNamesBack, frameState, pairOf}
 use Rattle.tables.specs.declared.pairs.GranuleState.{GranuleState}
 use Rattle.tables.specs.declared.pairs.GranuleState.the-variants as granule-state
 use Rattle.tables.specs.declared.pairs.FrameState.{FrameState}
@@ -48,7 +48,7 @@ module _ (frames : List ℕ) (v g : ℕ) where
   unfolding granuleState
   granule-says map-word.Vacant k e n = rw e
   granule-says (map-word.Frame s f) k e n =
-      rw (e, passed (ltb f (length frames) && namesGranule v s g (frameWordOf (getD frames f 0))) (granule-state.Frame s f) granule-state.Damaged (λ q. n (e ∙ q)))
+      rw (e, passed (frameNamesBack frames v s g f) (granule-state.Frame s f) granule-state.Damaged (λ q. n (e ∙ q)))
   granule-says map-word.Guarded k e n = rw e
   granule-says map-word.Damaged k e n = rw e
 
@@ -57,7 +57,7 @@ module _ (frames : List ℕ) (v g : ℕ) where
   unfolding granuleState
   granule-names s f e =
       let named = namesGranule v s g (frameWordOf (getD frames f 0)) in
-      let t = passed (ltb f (length frames) && named) (granule-state.Frame s f) granule-state.Damaged (λ q. let z : _≡_ {A = ℕ} 0 1 = cc in omega arith) in
+      let t = passed (frameNamesBack frames v s g f) (granule-state.Frame s f) granule-state.Damaged (λ q. let z : _≡_ {A = ℕ} 0 1 = cc in omega arith) in
       let p = both-true (ltb f (length frames)) named t in
       (ltb-true f (length frames) (p .0), named-granule v s g (frameWordOf (getD frames f 0)) (p .1))
 
@@ -68,7 +68,7 @@ module _ (map : List ℕ) (f : ℕ) where
   frame-says frame-word.Host k e n = rw e
   frame-says frame-word.Waiting k e n = rw e
   frame-says (frame-word.Owned v s g) k e n =
-      rw (e, passed (ltb g (widthOf (length map)) && namesFrame s f (mapWordOf (wordAt map v g))) (frame-state.Owned v s g) frame-state.Damaged (λ q. n (e ∙ q)))
+      rw (e, passed (granuleNamesBack map v s g f) (frame-state.Owned v s g) frame-state.Damaged (λ q. n (e ∙ q)))
   frame-says frame-word.Damaged k e n = rw e
 
   pub frame-names : (v g : ℕ) (s : Bool) → frame-state.Owned v s g ≡ frameState map f (frame-word.Owned v s g)
@@ -76,7 +76,7 @@ module _ (map : List ℕ) (f : ℕ) where
   unfolding frameState
   frame-names v g s e =
       let named = namesFrame s f (mapWordOf (wordAt map v g)) in
-      let t = passed (ltb g (widthOf (length map)) && named) (frame-state.Owned v s g) frame-state.Damaged (λ q. let z : _≡_ {A = ℕ} 0 1 = cc in omega arith) in
+      let t = passed (granuleNamesBack map v s g f) (frame-state.Owned v s g) frame-state.Damaged (λ q. let z : _≡_ {A = ℕ} 0 1 = cc in omega arith) in
       let p = both-true (ltb g (widthOf (length map))) named t in
       (ltb-true g (widthOf (length map)) (p .0), named-frame s f (mapWordOf (wordAt map v g)) (p .1))
 

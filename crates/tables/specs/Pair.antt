@@ -1,7 +1,7 @@
 -- Document 01, "Tables": "A word that names a partner (a map word its frame, a frame word its owner's granule) must be named back by it,
 -- with the same shared or private; else both are damaged, to a call that looks from that word to its partner. What any third word
 -- names doesn't count."
-use mathlib.Core.Bool.{cond, _&&_}
+use mathlib.Core.Bool.{Bool, cond, _&&_}
 use mathlib.Core.List.{List}
 use Prim.Native.Nat.{ℕ}
 use lib.Dec.{ltb}
@@ -19,11 +19,14 @@ use Rattle.tables.specs.declared.pairs.GranuleState.the-variants as gran
 use Rattle.tables.specs.declared.pairs.FrameState.{FrameState}
 use Rattle.tables.specs.declared.pairs.FrameState.the-variants as frame-state
 
--- granule g of slot v, by what its map word says: the frame is below F, and its word names the granule back
+-- frame f, which the map word of granule g of slot v names, is below F, and its word names that granule back
+abbrev pub frameNamesBack : List ℕ → ℕ → Bool → ℕ → ℕ → Bool
+frameNamesBack frames v s g f = ltb f (length frames) && namesGranule v s g (frameWordOf (getD frames f 0))
+
+-- granule g of slot v, by what its map word says
 unfoldable pub granuleState : List ℕ → ℕ → ℕ → MapWord → GranuleState
 granuleState frames v g map-word.Vacant = granule-state.Vacant
-granuleState frames v g (map-word.Frame s f) =
-    cond (ltb f (length frames) && namesGranule v s g (frameWordOf (getD frames f 0))) (granule-state.Frame s f) granule-state.Damaged
+granuleState frames v g (map-word.Frame s f) = cond (frameNamesBack frames v s g f) (granule-state.Frame s f) granule-state.Damaged
 granuleState frames v g map-word.Guarded = granule-state.Guarded
 granuleState frames v g map-word.Damaged = granule-state.Damaged
 
@@ -32,12 +35,15 @@ unfoldable pub pairAt : List ℕ → List ℕ → ℕ → ℕ → GranuleState
 pairAt frames map v g =
     cond (ltb v 8 && ltb g (widthOf (length map))) (granuleState frames v g (mapWordOf (wordAt map v g))) granule-state.Damaged
 
--- frame f, by what its frame word says: the owner's granule is below W, and its word names the frame back
+-- granule g of slot v, which the word of frame f names, is below W, and its word names that frame back
+abbrev pub granuleNamesBack : List ℕ → ℕ → Bool → ℕ → ℕ → Bool
+granuleNamesBack map v s g f = ltb g (widthOf (length map)) && namesFrame s f (mapWordOf (wordAt map v g))
+
+-- frame f, by what its frame word says
 unfoldable pub frameState : List ℕ → ℕ → FrameWord → FrameState
 frameState map f frame-word.Host = frame-state.Host
 frameState map f frame-word.Waiting = frame-state.Waiting
-frameState map f (frame-word.Owned v s g) =
-    cond (ltb g (widthOf (length map)) && namesFrame s f (mapWordOf (wordAt map v g))) (frame-state.Owned v s g) frame-state.Damaged
+frameState map f (frame-word.Owned v s g) = cond (granuleNamesBack map v s g f) (frame-state.Owned v s g) frame-state.Damaged
 frameState map f frame-word.Damaged = frame-state.Damaged
 
 -- the pair test of a frame with its owner's granule; "a frame not below F" is damaged

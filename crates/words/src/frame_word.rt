@@ -48,7 +48,8 @@ impl FrameWord {
         }
     }
 
-    // The word of a guest's frame. The caller has tested the slot, and the granule against the slot's row.
+    // The word of a guest's frame. A leaf of the range loop, so it asks for numbers that have room: a caller has tested them once, the
+    // granule against the slot's row.
     pub fn of_owner(slot: usize, shared: bool, granule: usize) -> u32
         requires { ⌜ (slot < 8) × (granule < 2 ^ 16) ⌝ }
         ensures { λ r. ⌜ r ≡ frameBits (FrameWord.Owned slot shared granule) ⌝ }
