@@ -24,11 +24,9 @@ sum [] = 0
 sum (m ∷ ms) = m + sum ms
 
 module _ {S R : Type 0} where
+  -- the parts of an end that statements speak of
   abbrev pub countOf : End S R → ℕ
   countOf (ended d s r) = d
-
-  abbrev pub stateOf : End S R → S
-  stateOf (ended d s r) = s
 
   abbrev pub stopOf : End S R → Stop R
   stopOf (ended d s r) = r
