@@ -18,6 +18,10 @@ boundsOf n v = cond (ltb v 8) (bounds (v * widthOf n) (v * widthOf n + widthOf n
 abbrev pub rowOf : List ℕ → ℕ → List ℕ
 rowOf map v = let r = boundsOf (length map) v in take (r .end - r .start) (drop (r .start) map)
 
--- the word of granule g in slot v's row
+-- the number of the word of granule g of slot v, in a map table of n words
+abbrev pub wordIndex : ℕ → ℕ → ℕ → ℕ
+wordIndex n v g = v * widthOf n + g
+
+-- the word of granule g of slot v
 abbrev pub wordAt : List ℕ → ℕ → ℕ → ℕ
-wordAt map v g = getD map (v * widthOf (length map) + g) 0
+wordAt map v g = getD map (wordIndex (length map) v g) 0
