@@ -1,6 +1,6 @@
 -- How the pair tests come out, by the tests that are made on the way.
 use mathlib.Core.Path.{_≡_}
-use mathlib.Core.Bool.{Bool, true, false}
+use mathlib.Core.Bool.{Bool, cond}
 use mathlib.Core.List.{List}
 use Prim.Native.Nat.{ℕ, _<_, _≤_}
 use native.Mathlib.Decide.{decLt}
@@ -26,14 +26,10 @@ module _ (frames : List ℕ) (v g f : ℕ) (s : Bool) where
   unfolding granuleState
   frame-beyond h = rw (le-ltb f (length frames) h)
 
-  module _ (h : f < length frames) (named : Bool) (e : named ≡ namesGranule v s g (frameWordOf (getD frames f 0))) where
-    pub frame-named : named ≡ true → granule-state.Frame s f ≡ granuleState frames v g (map-word.Frame s f)
-    unfolding granuleState
-    frame-named t = rw (lt-ltb f (length frames) h, ← e, t)
-
-    pub frame-unnamed : named ≡ false → granule-state.Damaged ≡ granuleState frames v g (map-word.Frame s f)
-    unfolding granuleState
-    frame-unnamed t = rw (lt-ltb f (length frames) h, ← e, t)
+  pub frame-tested : f < length frames → (named b : Bool) → named ≡ namesGranule v s g (frameWordOf (getD frames f 0)) → named ≡ b
+      → cond b (granule-state.Frame s f) granule-state.Damaged ≡ granuleState frames v g (map-word.Frame s f)
+  unfolding granuleState
+  frame-tested h named b e t = rw (lt-ltb f (length frames) h, ← e, t)
 
 -- granule g of slot v, looked up in the slot's row
 module _ (frames map : List ℕ) (v g : ℕ) (words : List ℕ) (e : words ≡ rowOf map v) where
@@ -57,17 +53,13 @@ module _ (map : List ℕ) (f v g : ℕ) (s : Bool) (words : List ℕ) (e : words
   unfolding frameState
   owner-beyond hv h = rw (le-ltb g (widthOf (length map)) (off-row map v g words e h hv))
 
-  module _ (h : g < length words) (named : Bool) (t : named ≡ namesFrame s f (mapWordOf (getD words g 0))) where
-    back : named ≡ namesFrame s f (mapWordOf (wordAt map v g))
-    back = rw (in-row map v g words e h .word) at t
-
-    pub owner-named : named ≡ true → frame-state.Owned v s g ≡ frameState map f (frame-word.Owned v s g)
-    unfolding frameState
-    owner-named b = rw (lt-ltb g (widthOf (length map)) (in-row map v g words e h .granule), ← back, b)
-
-    pub owner-unnamed : named ≡ false → frame-state.Damaged ≡ frameState map f (frame-word.Owned v s g)
-    unfolding frameState
-    owner-unnamed b = rw (lt-ltb g (widthOf (length map)) (in-row map v g words e h .granule), ← back, b)
+  pub owner-tested : g < length words → (named b : Bool) → named ≡ namesFrame s f (mapWordOf (getD words g 0)) → named ≡ b
+      → cond b (frame-state.Owned v s g) frame-state.Damaged ≡ frameState map f (frame-word.Owned v s g)
+  unfolding frameState
+  owner-tested h named b t u =
+      let r = in-row map v g words e h in
+      let back : named ≡ namesFrame s f (mapWordOf (wordAt map v g)) = rw (r .word) at t in
+      rw (lt-ltb g (widthOf (length map)) (r .granule), ← back, u)
 
 -- a frame of the table, by what its word said, and one beyond it
 module _ (frames map : List ℕ) (f : ℕ) where

@@ -1,6 +1,6 @@
 ghost use mathlib.Core.Path.{_≡_};
-ghost use Rattle.words.specs.MapWord.{mapWordOf};
 ghost use Prim.Native.Nat.{_<_};
+ghost use Rattle.words.specs.MapWord.{mapWordOf};
 ghost use Rattle.words.specs.declared.frame_word.FrameWord.the-variants.{Owned as OwnedWord};
 ghost use Rattle.tables.specs.Pair.{granuleState, pairAt, frameState, pairOf};
 use crate::rows::row;
@@ -82,7 +82,7 @@ pub fn pair_of(map: &[u32], frames: &[u32], frame: u64) -> FrameState
     }
 }
 
-// Whether an owner's granule names the frame back.
+// Whose a frame is that names an owner, one of the eight slots as every owner in a word is: does the owner's granule name it back?
 fn owner_state(map: &[u32], frame: usize, slot: usize, shared: bool, granule: usize) -> FrameState
     requires { ⌜ slot < 8 ⌝ }
     ensures { λ r. ⌜ r ≡ frameState (now (map .entry)) frame (OwnedWord slot shared granule) ⌝ }

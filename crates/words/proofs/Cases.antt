@@ -1,8 +1,7 @@
 -- Words and numbers of document 01 as computed cases, the damaged ones by each way that a word can be damaged.
 use mathlib.Core.Path.{_≡_, refl}
 use mathlib.Core.Bool.{true, false}
-use mathlib.Core.List.{List, [], _∷_, map}
-use Prim.Native.Nat.{ℕ}
+use mathlib.Core.List.{[], _∷_, map}
 use lib.IntN.{pos, negsuc}
 use Rattle.words.specs.MapWord.{mapWordOf}
 use Rattle.words.specs.FrameWord.{frameWordOf}

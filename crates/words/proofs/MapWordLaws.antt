@@ -41,11 +41,11 @@ pub map-encode-decode : (w : ℕ) → (mapWordOf w ≡ Damaged → ⊥) → mapB
 unfolding mapBits mapWordOf
 map-encode-decode w n = go (eqb w 0) refl (eqb (w / 2 ^ 16) 0x4000) refl (eqb (w / 2 ^ 16) 0x8000) refl (eqb w 0xC0000000) refl n
   where
-    Said : Bool → Bool → Bool → Bool → MapWord
-    Said a b c d = cond a Vacant (cond b (Frame false (w % 2 ^ 16)) (cond c (Frame true (w % 2 ^ 16)) (cond d Guarded Damaged)))
+    said : Bool → Bool → Bool → Bool → MapWord
+    said a b c d = cond a Vacant (cond b (Frame false (w % 2 ^ 16)) (cond c (Frame true (w % 2 ^ 16)) (cond d Guarded Damaged)))
 
     go : (a : Bool) → eqb w 0 ≡ a → (b : Bool) → eqb (w / 2 ^ 16) 0x4000 ≡ b → (c : Bool) → eqb (w / 2 ^ 16) 0x8000 ≡ c → (d : Bool) → eqb w 0xC0000000 ≡ d
-        → (Said a b c d ≡ Damaged → ⊥) → mapBits (Said a b c d) ≡ w
+        → (said a b c d ≡ Damaged → ⊥) → mapBits (said a b c d) ≡ w
     go true p b q c r d s n = sym (eqb-true w 0 p)
     go false p true q c r d s n = omega (arith, eqb-true (w / 2 ^ 16) 0x4000 q)
     go false p false q true r d s n = omega (arith, eqb-true (w / 2 ^ 16) 0x8000 r)

@@ -1,5 +1,5 @@
 -- Each case by the tests that led to it.
-use Rattle.tables.proofs.PairLaws.{frame-beyond, frame-named, frame-unnamed}
+use Rattle.tables.proofs.PairLaws.{frame-beyond, frame-tested}
 use Rattle.tables.specs.Pair.{granuleState}
 use borrow.Author.Needs.{needs}
 use Rattle.tables.proofs.pairs.granule_state.Statement.{statement}
@@ -32,7 +32,7 @@ names-requires c κs = search needs
 returns : tie.Need-returns
 returns c =
     rw (← c .before .before .before .before .before .before .before .of .ensures, c .before .before .before .before .before .shared .given .1)
-    (frame-named _ _ _ _ _ (c .before .before .before .if1 .taken) _ (c .before .names .ensures) (c .if2 .taken))
+    (frame-tested _ _ _ _ _ (c .before .before .before .if1 .taken) _ _ (c .before .names .ensures) (c .if2 .taken))
 
 returns-2 : tie.Need-returns-2
 unfolding granuleState
@@ -49,7 +49,7 @@ returns-4 c = rw (← c .before .before .of .ensures, c .enum-told3 .given .1)
 returns-5 : tie.Need-returns-5
 returns-5 c =
     rw (← c .before .before .before .before .before .before .before .of .ensures, c .before .before .before .before .before .shared .given .1)
-    (frame-unnamed _ _ _ _ _ (c .before .before .before .if1 .taken) _ (c .before .names .ensures) (c .if2 .left))
+    (frame-tested _ _ _ _ _ (c .before .before .before .if1 .taken) _ _ (c .before .names .ensures) (c .if2 .left))
 
 returns-6 : tie.Need-returns-6
 returns-6 c =

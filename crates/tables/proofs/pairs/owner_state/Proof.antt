@@ -1,5 +1,5 @@
 -- Each case by the tests that led to it.
-use Rattle.tables.proofs.PairLaws.{owner-beyond, owner-named, owner-unnamed}
+use Rattle.tables.proofs.PairLaws.{owner-beyond, owner-tested}
 use borrow.Author.Needs.{needs}
 use Rattle.tables.proofs.pairs.owner_state.Statement.{statement}
 use Rattle.tables.proofs.pairs.owner_state.Tie as tie
@@ -17,10 +17,10 @@ names-requires : tie.Need-names-requires
 names-requires c κs = search needs
 
 returns : tie.Need-returns
-returns c = owner-named _ _ _ _ _ _ (c .before .before .before .before .row .ensures) (c .before .before .before .if1 .taken) _ (c .before .names .ensures) (c .if2 .taken)
+returns c = owner-tested _ _ _ _ _ _ (c .before .before .before .before .row .ensures) (c .before .before .before .if1 .taken) _ _ (c .before .names .ensures) (c .if2 .taken)
 
 returns-2 : tie.Need-returns-2
-returns-2 c = owner-unnamed _ _ _ _ _ _ (c .before .before .before .before .row .ensures) (c .before .before .before .if1 .taken) _ (c .before .names .ensures) (c .if2 .left)
+returns-2 c = owner-tested _ _ _ _ _ _ (c .before .before .before .before .row .ensures) (c .before .before .before .if1 .taken) _ _ (c .before .names .ensures) (c .if2 .left)
 
 returns-3 : tie.Need-returns-3
 returns-3 c = owner-beyond _ _ _ _ _ _ (c .before .row .ensures) (c .before .before .before .pre) (c .if1 .left)
