@@ -48,8 +48,8 @@ impl FrameWord {
         }
     }
 
-    // The word of a guest's frame. A leaf of the range loop, so it asks for numbers that have room: a caller has tested them once, the
-    // granule against the slot's row.
+    // The word of a guest's frame. A leaf for the work on single granules, so it asks for numbers that have room: its caller tests them
+    // once, the granule as an index of the slot's row.
     pub fn of_owner(slot: usize, shared: bool, granule: usize) -> u32
         requires { ⌜ (slot < 8) × (granule < 2 ^ 16) ⌝ }
         ensures { λ r. ⌜ r ≡ frameBits (FrameWord.Owned slot shared granule) ⌝ }

@@ -43,8 +43,8 @@ impl MapWord {
         }
     }
 
-    // The word of a private or shared frame. A leaf of the range loop, so it asks for a number that has room: a caller has tested it once,
-    // against the frame table.
+    // The word of a private or shared frame. A leaf for the work on single granules, so it asks for a number that has room: its caller
+    // tests it once, as an index of the frame table.
     pub fn of_frame(shared: bool, frame: usize) -> u32
         requires { ⌜ frame < 2 ^ 16 ⌝ }
         ensures { λ r. ⌜ r ≡ mapBits (MapWord.Frame shared frame) ⌝ }
