@@ -1,6 +1,7 @@
 -- What is read of the state after a record was put in, and of the fresh state.
 use mathlib.Core.Path.{_≡_}
 use mathlib.Core.Logic.{_≢_}
+use mathlib.Core.Bool.{true, false}
 use Prim.Native.Nat.{ℕ, _<_}
 use native.Mathlib.Decide.{decLt}
 use native.Mathlib.Omega.{arith}
@@ -38,3 +39,12 @@ guest-fresh v = go (decLt v 8)
     go : Dec (v < 8) → guestOf fresh v ≡ zeroGuest
     go (yes h) = rw (lt-ltb v 8 h) (getD-replicate {A = Guest} 8 v zeroGuest zeroGuest h)
     go (no h) = rw (le-ltb v 8 (omega arith))
+
+-- a live guest is in one of the eight slots
+pub live-slot : (m : Monitor) (v : ℕ) → guestOf m v .live ≡ true → v < 8
+unfolding guestOf
+live-slot m v e = go (decLt v 8)
+  where
+    go : Dec (v < 8) → v < 8
+    go (yes h) = h
+    go (no h) = let dead : guestOf m v .live ≡ false = rw (le-ltb v 8 (omega arith)) in let z : _≡_ {A = ℕ} 0 1 = cc in absurd (omega arith)

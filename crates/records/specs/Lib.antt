@@ -1,2 +1,4 @@
 pub mod Monitor
 pub mod Answer
+pub mod State
+pub mod Tests

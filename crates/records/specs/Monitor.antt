@@ -1,5 +1,5 @@
 -- Document 01, "Tables": "The state keeps the guest record of each of eight slots: live, run, enrolled and three feature bitmaps."
-use mathlib.Core.Bool.{false, cond}
+use mathlib.Core.Bool.{true, false, cond}
 use Prim.Native.Nat.{ℕ}
 use lib.Dec.{ltb}
 use lib.ListN.{getD, set, replicate}
@@ -8,6 +8,10 @@ use Rattle.records.specs.declared.monitor.Monitor.{Monitor}
 
 abbrev pub zeroGuest : Guest
 zeroGuest = record { live = false; run = false; enrolled = false; std = 0; «std_hyp» = 0; «vendor_hyp» = 0 }
+
+-- "enroll": the flag alone changes
+abbrev pub enroll : Guest → Guest
+enroll g = record { live = g .live; run = g .run; enrolled = true; std = g .std; «std_hyp» = g .«std_hyp»; «vendor_hyp» = g .«vendor_hyp» }
 
 -- "Fresh tables and records are all zero."
 abbrev pub fresh : Monitor

@@ -1,5 +1,5 @@
 ghost use mathlib.Core.Path.{_≡_};
-ghost use Rattle.records.specs.Monitor.{zeroGuest};
+ghost use Rattle.records.specs.Monitor.{zeroGuest, enroll};
 
 // The record of a guest slot. A slot that is not live has no guest, whatever else its record holds.
 pub struct Guest {
@@ -24,5 +24,13 @@ impl Guest {
             std_hyp: 0,
             vendor_hyp: 0,
         }
+    }
+
+    // The record of a guest that enrolls. Nothing else changes.
+    pub fn enroll(mut self) -> Guest
+        ensures { λ r. ⌜ r ≡ enroll self ⌝ }
+    {
+        self.enrolled = true;
+        self
     }
 }

@@ -20,6 +20,10 @@ register-bits (negsuc n) = refl
 pub register-lossless : (x : ℤ) → SFits w64 x → toZ w64 (registerOf x) ≡ x
 register-lossless x h = ap (toZ w64) (register-bits x) ∙ toZ-ofZ w64 x h
 
+-- bits below the sign bit read as signed are the number itself
+pub zero-extended : (n : ℕ) → n < 2 ^ 63 → toZ w64 n ≡ pos n
+zero-extended n h = toZ-ofZ w64 (pos n) (record { sfits = h })
+
 -- at or above zero, the number itself
 pub high-fits : (x : ℤ) → SFits w64 x → leZ (pos 0) x ≡ true → T (nonNeg x) × Fits w64 (natAbs x)
 high-fits (pos n) f h = (tt, record { fits = omega arith })

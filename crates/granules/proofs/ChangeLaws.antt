@@ -1,0 +1,71 @@
+-- A change that writes a frame comes of a granule that names it, and is named back: so the frame is in the table, and all have room in a word.
+use mathlib.Core.Path.{_≡_, sym, _∙_}
+use mathlib.Core.Bool.{Bool, true, false, cond}
+use mathlib.Core.List.{List}
+use Prim.Native.Nat.{ℕ, _<_, _^_}
+use native.Mathlib.Omega.{arith}
+use lib.ListN.{length, getD}
+use Rattle.words.specs.MapWord.{mapWordOf}
+use Rattle.words.specs.FrameWord.{frameWordOf}
+use Rattle.words.specs.declared.map_word.MapWord.the-variants as map-word
+use Rattle.words.specs.declared.frame_word.FrameWord.the-variants as frame-word
+use Rattle.words.proofs.MapWordLaws.{map-fits}
+use Rattle.words.proofs.FrameWordLaws.{frame-fits}
+use Rattle.tables.specs.Pair.{granuleState}
+use Rattle.tables.specs.declared.pairs.GranuleState.{GranuleState}
+use Rattle.tables.specs.declared.pairs.GranuleState.the-variants as granule-state
+use Rattle.tables.proofs.Found.{granule-says, granule-names}
+use Rattle.granules.specs.Kind.{isOf, bare, changeOf}
+use Rattle.granules.specs.declared.kinds.Kind.{Kind}
+use Rattle.granules.specs.declared.kinds.Kind.the-variants.{Vacant, Private, Shared, Guarded}
+use Rattle.granules.specs.declared.kinds.Operation.{Operation}
+use Rattle.granules.specs.declared.kinds.Change.the-variants.{Damaged, Refused, WithFrame}
+
+no-frame : (m : Kind) (f : ℕ) → WithFrame f ≡ bare m → ⊥
+no-frame Vacant f e = let z : _≡_ {A = ℕ} 0 1 = cc in omega arith
+no-frame Private f e = let z : _≡_ {A = ℕ} 0 1 = cc in omega arith
+no-frame Shared f e = let z : _≡_ {A = ℕ} 0 1 = cc in omega arith
+no-frame Guarded f e = let z : _≡_ {A = ℕ} 0 1 = cc in omega arith
+
+not-bare : (b : Bool) (m : Kind) (f : ℕ) → WithFrame f ≡ cond b (bare m) Refused → ⊥
+not-bare true m f e = no-frame m f e
+not-bare false m f e = let z : _≡_ {A = ℕ} 0 1 = cc in omega arith
+
+same-frame : (b : Bool) (f h : ℕ) → WithFrame f ≡ cond b (WithFrame h) Refused → f ≡ h
+same-frame true f h e = cc
+same-frame false f h e = cc
+
+-- the frame that is written is the granule's
+pub with-frame : (o : Operation) (k : GranuleState) (f : ℕ) → WithFrame f ≡ changeOf o k → (s : Bool) × (k ≡ granule-state.Frame s f)
+unfolding changeOf
+with-frame o granule-state.Vacant f e = absurd (not-bare (isOf (o .needs) granule-state.Vacant) (o .makes) f e)
+with-frame o (granule-state.Frame s h) f e = (s, rw (same-frame (isOf (o .needs) (granule-state.Frame s h)) f h e))
+with-frame o granule-state.Guarded f e = absurd (not-bare (isOf (o .needs) granule-state.Guarded) (o .makes) f e)
+with-frame o granule-state.Damaged f e = let z : _≡_ {A = ℕ} 0 1 = cc in absurd (omega arith)
+
+-- what holds of a frame that is to be written
+pub record Writable (frames : List ℕ) (v g w f : ℕ) : Type 0 where
+  pub sharing : Bool
+  pub word : mapWordOf w ≡ map-word.Frame sharing f
+  pub owner : frameWordOf (getD frames f 0) ≡ frame-word.Owned v sharing g
+  pub inside : f < length frames
+  pub frame : f < 2 ^ 16
+  pub slot : v < 8
+  pub granule : g < 2 ^ 16
+
+pub writable : (o : Operation) (frames : List ℕ) (v g w : ℕ) (k : GranuleState) → k ≡ granuleState frames v g (mapWordOf w) → (f : ℕ) → WithFrame f ≡ changeOf o k
+    → Writable frames v g w f
+writable o frames v g w k e f d =
+    let p = with-frame o k f d in
+    let says : mapWordOf w ≡ map-word.Frame (p .0) f = rw (p .1) at (granule-says frames v g (mapWordOf w) k e (λ q. let z : _≡_ {A = ℕ} 0 1 = cc in omega arith)) in
+    let names = granule-names frames v g (p .0) f (sym (p .1) ∙ e ∙ rw says) in
+    let fits = rw (names .1) at (frame-fits (getD frames f 0)) in
+    record {
+      sharing = p .0;
+      word = says;
+      owner = names .1;
+      inside = names .0;
+      frame = rw says at (map-fits w);
+      slot = fits .0;
+      granule = fits .1;
+    }

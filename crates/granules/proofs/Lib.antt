@@ -1,0 +1,4 @@
+pub mod ChangeLaws
+pub mod StepLaws
+pub mod RangeLaws
+pub mod Lent
