@@ -1,0 +1,99 @@
+use native.Mathlib.Omega.{arith}
+use Prim.Native.Nat.{_<_, _^_}
+use Rattle.words.proofs.RegisterLaws.{zero-extended}
+-- By the action.
+use Rattle.guest.specs.Calls.{actOf}
+use borrow.Author.Needs.{needs}
+use Rattle.guest.proofs.hypercalls.act.Statement.{statement}
+use Rattle.guest.proofs.hypercalls.act.Tie as tie
+
+enum-told : tie.Need-enum-told
+enum-told c = search needs
+
+answer-requires : tie.Need-answer-requires
+answer-requires c κs = search needs
+
+enum-known-action : tie.Need-enum-known-action
+enum-known-action c = search needs
+
+cast-t19 : tie.Need-cast-t19
+cast-t19 c = search needs
+
+cast-t20 : tie.Need-cast-t20
+cast-t20 c = search needs
+
+cast-t21 : tie.Need-cast-t21
+cast-t21 c = search needs
+
+cast-t22 : tie.Need-cast-t22
+cast-t22 c = search needs
+
+enum-told-2 : tie.Need-enum-told-2
+enum-told-2 c = search needs
+
+guest-requires : tie.Need-guest-requires
+guest-requires c κs = search needs
+
+enroll-requires : tie.Need-enroll-requires
+enroll-requires c κs = search needs
+
+with-guest-requires : tie.Need-with-guest-requires
+with-guest-requires c κs = search needs
+
+enum-known-action-2 : tie.Need-enum-known-action-2
+enum-known-action-2 c = search needs
+
+change-row-requires : tie.Need-change-row-requires
+change-row-requires c κs = search needs
+
+answer-of-requires : tie.Need-answer-of-requires
+answer-of-requires c κs = search needs
+
+returns : tie.Need-returns
+unfolding actOf
+returns c = rw (c .before .enum-told .given .1, c .answer .ensures)
+
+returns-2 : tie.Need-returns-2
+unfolding actOf
+returns-2 c =
+    let below : c .before .action .given .0 .0 < 2 ^ 63 = omega (arith, c .known-told .given .0 .1) in
+    rw (c .before .action .given .1, zero-extended (c .before .action .given .0 .0) below)
+
+returns-3 : tie.Need-returns-3
+unfolding actOf
+returns-3 c = rw (c .before .before .before .enum-told2 .given .1, c .with-guest .ensures, c .before .enroll .ensures, c .before .before .guest .ensures)
+
+same-length : tie.Need-same-length
+same-length c = search needs
+
+same-length-2 : tie.Need-same-length-2
+same-length-2 c = search needs
+
+returns-4 : tie.Need-returns-4
+unfolding actOf
+returns-4 c = rw (c .before .before .before .before .before .before .before .before .before .action2 .given .1, c .answer-of .ensures, c .before .before .before .before .before .change-row .ensures)
+
+pub act-spec : {M : Type 1} → statement M
+act-spec =
+    tie.close
+    (tie.spec
+    enum-told
+    answer-requires
+    enum-known-action
+    cast-t19
+    cast-t20
+    cast-t21
+    cast-t22
+    enum-told-2
+    guest-requires
+    enroll-requires
+    with-guest-requires
+    enum-known-action-2
+    change-row-requires
+    answer-of-requires
+    returns
+    returns-2
+    returns-3
+    same-length
+    same-length-2
+    returns-4)

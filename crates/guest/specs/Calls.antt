@@ -1,0 +1,98 @@
+-- Document 01, "Guest calls": hypercall and abort, with "Verdicts, in the order they are tested".
+use mathlib.Core.Bool.{Bool, cond}
+use mathlib.Core.List.{List, [], _∷_}
+use mathlib.Core.Option.{Option, none, some}
+use Prim.Native.Nat.{ℕ, zero, suc, min}
+use lib.Dec.{ltb}
+use lib.IntN.{pos}
+use lib.ListN.{length}
+use Rattle.runs.specs.Run.{Stop, complete, refused, outOfFuel, End, ended, run}
+use Rattle.words.specs.Granule.{granuleOf}
+use Rattle.tables.specs.Length.{widthOf, lengthsHold}
+use Rattle.tables.specs.Pair.{pairAt}
+use Rattle.tables.specs.declared.pairs.GranuleState.{GranuleState}
+use Rattle.tables.specs.declared.pairs.GranuleState.the-variants as granule-state
+use Rattle.records.specs.Monitor.{guestOf, withGuest, enroll}
+use Rattle.records.specs.State.{State, state, Answered, answered}
+use Rattle.records.specs.Tests.{Tests, firstRefusal, unlessRefused}
+use Rattle.records.specs.declared.guest.Guest.{Guest}
+use Rattle.records.specs.declared.monitor.Monitor.{Monitor}
+use Rattle.records.specs.declared.answer.Answer.{Answer}
+use Rattle.records.specs.declared.answer.Answer.the-variants.{BadLength, NoGuest, NeverRun, Damaged, Return, MmioExit, Exception, Resume}
+use Rattle.granules.specs.Step.{rangeLimit, Place, place, Refusal, isDamaged, notDone, tableStep}
+use Rattle.guest.specs.Function.{askedBy}
+use Rattle.guest.specs.Table.{permits, returned, errorAnswer, rowOf, registersHold, actionOf}
+use Rattle.guest.specs.declared.rows.Registers.{Registers}
+use Rattle.guest.specs.declared.rows.Error.{Error}
+use Rattle.guest.specs.declared.rows.Row.{Row}
+use Rattle.guest.specs.declared.actions.Action.{Action}
+use Rattle.guest.specs.declared.actions.Action.the-variants as action
+use Rattle.guest.specs.declared.admissions.Admission.{Admission}
+use Rattle.guest.specs.declared.admissions.Admission.the-variants as admission
+
+-- verdicts 1 to 3, of tables of f and m words and the caller's record; a slot above 7 has the record of no guest
+abbrev pub callerTests : ℕ → ℕ → Guest → Tests Answer
+callerTests f m g = (lengthsHold f m, BadLength) ∷ (g .live, NoGuest) ∷ (g .run, NeverRun) ∷ []
+
+-- "Registers, then enrolment, are tested before any granule."
+abbrev pub rowTests : Row → Registers → Guest → Tests Answer
+rowTests w r g = (registersHold w r, errorAnswer (w .error)) ∷ (permits (w .condition) g, errorAnswer (w .error)) ∷ []
+
+-- what the code's admission says
+abbrev pub refusalBy : Admission → Option Answer
+refusalBy admission.Passed = none
+refusalBy (admission.Refused a) = some a
+
+-- "If at least one was done it answers 0, and R1 is the number of granules changed by this call. If none was done, it answers IP or NS
+-- with R1 = 0, or verdict 6 if that granule is damaged."
+abbrev pub doneAnswer : Error → Bool → ℕ → Stop Refusal → Answer
+doneAnswer e tells (suc k) r = returned (pos 0) (cond tells (suc k) 0)
+doneAnswer e tells zero (refused isDamaged) = Damaged
+doneAnswer e tells zero (refused notDone) = errorAnswer e
+doneAnswer e tells zero complete = errorAnswer e
+doneAnswer e tells zero outOfFuel = errorAnswer e
+
+abbrev pub finished : Error → Bool → Monitor → End Place Refusal → Answered
+finished e tells m (ended k (place map frames g) r) = answered (state frames map m) (doneAnswer e tells k r)
+
+-- what a hypercall of slot v does whose tests have passed
+unfoldable pub actOf : ℕ → ℕ → Error → Action → State → Answered
+actOf v b e action.Refuse s = answered s (errorAnswer e)
+-- "UID words and bitmaps are zero-extended."
+actOf v b e (action.Tell r0 r1 r2 r3) s = answered s (Return (pos r0) r1 r2 r3)
+actOf v b e action.Enroll s =
+    answered (state (s .frames) (s .map) (withGuest (s .monitor) v (enroll (guestOf (s .monitor) v)))) (returned (pos 0) 0)
+-- "each stops after 64 granules, at the count, or before the first granule that can't be done"
+actOf v b e (action.Change o n tells) s =
+    finished e tells (s .monitor) (run (tableStep o v) (min rangeLimit n) (place (s .map) (s .frames) (granuleOf b)))
+
+-- a hypercall of slot v with registers r
+unfoldable pub hypercallOf : ℕ → Registers → State → Answered
+hypercallOf v r s =
+    let caller = guestOf (s .monitor) v in
+    let f = askedBy (r .r0) in
+    unlessRefused (firstRefusal (callerTests (length (s .frames)) (length (s .map)) caller)) s
+    (unlessRefused (firstRefusal (rowTests (rowOf f) r caller)) s
+    (actOf v (r .r1) (rowOf f .error) (actionOf f (r .r2)) s))
+
+-- "vacant or beyond the row is an exception if enrolled, else an MMIO exit"
+abbrev pub unbacked : ℕ → Guest → Answer
+unbacked a g = cond (g .enrolled) Exception (MmioExit a)
+
+-- "Abort at any IPA, aligned or not: private or shared resumes; guarded is an MMIO exit"
+abbrev pub accessAnswer : ℕ → Guest → GranuleState → Answer
+accessAnswer a g granule-state.Vacant = unbacked a g
+accessAnswer a g (granule-state.Frame s f) = Resume
+accessAnswer a g granule-state.Guarded = MmioExit a
+accessAnswer a g granule-state.Damaged = Damaged
+
+-- an access of slot v at the address a, of the record g
+unfoldable pub accessOf : List ℕ → List ℕ → ℕ → ℕ → Guest → Answer
+accessOf frames map v a g =
+    cond (ltb (granuleOf a) (widthOf (length map))) (accessAnswer a g (pairAt frames map v (granuleOf a))) (unbacked a g)
+
+unfoldable pub abortOf : ℕ → ℕ → State → Answered
+abortOf v a s =
+    let caller = guestOf (s .monitor) v in
+    unlessRefused (firstRefusal (callerTests (length (s .frames)) (length (s .map)) caller)) s
+    (answered s (accessOf (s .frames) (s .map) v a caller))

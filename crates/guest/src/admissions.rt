@@ -1,0 +1,52 @@
+ghost use mathlib.Core.Path.{_≡_};
+ghost use Rattle.records.specs.Tests.{firstRefusal};
+ghost use Rattle.guest.specs.Calls.{callerTests, rowTests, refusalBy};
+use crate::rows::Registers;
+use crate::rows::Row;
+use records::Answer;
+use records::Guest;
+use tables::lengths_hold;
+
+// Whether tests let a call pass, or the answer of the first that did not.
+pub enum Admission {
+    Passed,
+    Refused(Answer),
+}
+
+// The tests of every call of a guest: the tables' lengths, a live guest, a guest that was run.
+pub fn caller_admission(frame_words: usize, map_words: usize, guest: Guest) -> Admission
+    ensures { λ r. ⌜ refusalBy r ≡ firstRefusal (callerTests «frame_words» «map_words» guest) ⌝ }
+{
+    if lengths_hold(frame_words, map_words) {
+        if guest.live {
+            if guest.run {
+                Admission::Passed
+            } else {
+                Admission::Refused(Answer::NeverRun)
+            }
+        } else {
+            Admission::Refused(Answer::NoGuest)
+        }
+    } else {
+        Admission::Refused(Answer::BadLength)
+    }
+}
+
+impl Row {
+    // The tests of a hypercall's row: registers, then what the record must say.
+    pub fn admission(self, registers: Registers, guest: Guest) -> Admission
+        ensures { λ r. ⌜ refusalBy r ≡ firstRefusal (rowTests self registers guest) ⌝ }
+    {
+        let error = self.error;
+        let condition = self.condition;
+        if self.registers_hold(registers) {
+            if condition.permits(guest) {
+                Admission::Passed
+            } else {
+                Admission::Refused(error.answer())
+            }
+        } else {
+            Admission::Refused(error.answer())
+        }
+    }
+}
