@@ -26,14 +26,14 @@ use Rattle.records.specs.declared.answer.Answer.{Answer}
 use Rattle.records.specs.declared.answer.Answer.the-variants.{BadLength, NoGuest, NeverRun}
 use Rattle.records.proofs.MonitorLaws.{live-slot}
 use Rattle.granules.specs.Step.{Refusal}
-use Rattle.guest.specs.Function.{askedBy}
-use Rattle.guest.specs.Table.{returned, rowOf as callRow, actionOf}
+use Rattle.functions.specs.Function.{askedBy}
+use Rattle.functions.specs.Table.{returned, rowOf as callRow, actionOf}
 use Rattle.guest.specs.Calls.{callerTests, rowTests, refusalBy, doneAnswer, actOf, hypercallOf, unbacked, accessAnswer, accessOf, abortOf}
-use Rattle.guest.specs.declared.functions.Function.{Function}
-use Rattle.guest.specs.declared.rows.Registers.{Registers}
-use Rattle.guest.specs.declared.rows.Error.{Error}
-use Rattle.guest.specs.declared.rows.Row.{Row}
-use Rattle.guest.specs.declared.actions.Action.{Action}
+use Rattle.functions.specs.declared.numbers.Function.{Function}
+use Rattle.functions.specs.declared.rows.Registers.{Registers}
+use Rattle.functions.specs.declared.rows.Error.{Error}
+use Rattle.functions.specs.declared.rows.Row.{Row}
+use Rattle.functions.specs.declared.actions.Action.{Action}
 use Rattle.guest.specs.declared.admissions.Admission.{Admission}
 use Rattle.guest.specs.declared.admissions.Admission.the-variants as admission
 

@@ -1,2 +1,1 @@
-pub mod FunctionLaws
 pub mod CallLaws

@@ -20,13 +20,13 @@ use Rattle.records.specs.declared.monitor.Monitor.{Monitor}
 use Rattle.records.specs.declared.answer.Answer.{Answer}
 use Rattle.records.specs.declared.answer.Answer.the-variants.{BadLength, NoGuest, NeverRun, Damaged, Return, MmioExit, Exception, Resume}
 use Rattle.granules.specs.Step.{rangeLimit, Place, place, Refusal, isDamaged, notDone, tableStep}
-use Rattle.guest.specs.Function.{askedBy}
-use Rattle.guest.specs.Table.{permits, returned, errorAnswer, rowOf, registersHold, actionOf}
-use Rattle.guest.specs.declared.rows.Registers.{Registers}
-use Rattle.guest.specs.declared.rows.Error.{Error}
-use Rattle.guest.specs.declared.rows.Row.{Row}
-use Rattle.guest.specs.declared.actions.Action.{Action}
-use Rattle.guest.specs.declared.actions.Action.the-variants as action
+use Rattle.functions.specs.Function.{askedBy}
+use Rattle.functions.specs.Table.{permits, returned, errorAnswer, rowOf, registersHold, actionOf}
+use Rattle.functions.specs.declared.rows.Registers.{Registers}
+use Rattle.functions.specs.declared.rows.Error.{Error}
+use Rattle.functions.specs.declared.rows.Row.{Row}
+use Rattle.functions.specs.declared.actions.Action.{Action}
+use Rattle.functions.specs.declared.actions.Action.the-variants as action
 use Rattle.guest.specs.declared.admissions.Admission.{Admission}
 use Rattle.guest.specs.declared.admissions.Admission.the-variants as admission
 

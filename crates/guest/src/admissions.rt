@@ -1,8 +1,8 @@
 ghost use mathlib.Core.Path.{_≡_};
 ghost use Rattle.records.specs.Tests.{firstRefusal};
 ghost use Rattle.guest.specs.Calls.{callerTests, rowTests, refusalBy};
-use crate::rows::Registers;
-use crate::rows::Row;
+use functions::Registers;
+use functions::Row;
 use records::Answer;
 use records::Guest;
 use tables::lengths_hold;
@@ -32,21 +32,19 @@ pub fn caller_admission(frame_words: usize, map_words: usize, guest: Guest) -> A
     }
 }
 
-impl Row {
-    // The tests of a hypercall's row: registers, then what the record must say.
-    pub fn admission(self, registers: Registers, guest: Guest) -> Admission
-        ensures { λ r. ⌜ refusalBy r ≡ firstRefusal (rowTests self registers guest) ⌝ }
-    {
-        let error = self.error;
-        let condition = self.condition;
-        if self.registers_hold(registers) {
-            if condition.permits(guest) {
-                Admission::Passed
-            } else {
-                Admission::Refused(error.answer())
-            }
+// The tests of a hypercall's row: registers, then what the record must say.
+pub fn row_admission(row: Row, registers: Registers, guest: Guest) -> Admission
+    ensures { λ r. ⌜ refusalBy r ≡ firstRefusal (rowTests row registers guest) ⌝ }
+{
+    let error = row.error;
+    let condition = row.condition;
+    if row.registers_hold(registers) {
+        if condition.permits(guest) {
+            Admission::Passed
         } else {
             Admission::Refused(error.answer())
         }
+    } else {
+        Admission::Refused(error.answer())
     }
 }

@@ -2,14 +2,15 @@ ghost use mathlib.Core.Path.{_≡_};
 ghost use Prim.Native.Nat.{_<_};
 ghost use Rattle.records.specs.State.{state, answered};
 ghost use Rattle.guest.specs.Calls.{actOf, hypercallOf};
-use crate::actions::Action;
 use crate::admissions::Admission;
 use crate::admissions::caller_admission;
-use crate::functions::Function;
-use crate::rows::Error;
-use crate::rows::Registers;
+use crate::admissions::row_admission;
 use crate::work::answer_of;
 use crate::work::change_row;
+use functions::Action;
+use functions::Error;
+use functions::Function;
+use functions::Registers;
 use records::Answer;
 use records::Monitor;
 use records::Reply;
@@ -32,7 +33,7 @@ pub fn hypercall(
             let function = Function::asked(registers.r0);
             let row = function.row();
             let error = row.error;
-            match row.admission(registers, guest) {
+            match row_admission(row, registers, guest) {
                 Admission::Refused(answer) => Reply { monitor, answer },
                 Admission::Passed => act(
                     monitor,

@@ -4,7 +4,7 @@ ghost use Rattle.runs.specs.Run.{ended, run};
 ghost use Rattle.words.specs.Granule.{granuleOf};
 ghost use Rattle.granules.specs.Step.{place, rangeLimit, tableStep, stopBy};
 ghost use Rattle.guest.specs.Calls.{doneAnswer};
-use crate::rows::Error;
+use functions::Error;
 use granules::Operation;
 use granules::Outcome;
 use granules::Progress;

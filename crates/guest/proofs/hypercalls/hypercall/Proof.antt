@@ -23,8 +23,8 @@ asked-requires c κs = search needs
 row-requires : tie.Need-row-requires
 row-requires c κs = search needs
 
-admission-requires : tie.Need-admission-requires
-admission-requires c κs = search needs
+row-admission-requires : tie.Need-row-admission-requires
+row-admission-requires c κs = search needs
 
 enum-known-answer-2 : tie.Need-enum-known-answer-2
 enum-known-answer-2 c = search needs
@@ -42,7 +42,7 @@ returns : tie.Need-returns
 returns c = call-refused _ (state (c .before .before .before .before .before .before .before .args .frames .now) (c .before .before .before .before .before .before .before .args .map .now) (c .before .before .before .before .before .before .before .args .monitor)) _ (c .before .before .before .before .guest .ensures) _ (c .before .before .before .caller-admission .ensures) _ _ (c .before .answer .given .1)
 
 returns-2 : tie.Need-returns-2
-returns-2 c = row-refused _ (state (c .before .before .before .before .before .before .before .before .before .before .before .before .args .frames .now) (c .before .before .before .before .before .before .before .before .before .before .before .before .args .map .now) (c .before .before .before .before .before .before .before .before .before .before .before .before .args .monitor)) _ (c .before .before .before .before .before .before .before .before .before .guest .ensures) _ (c .before .before .before .before .before .before .before .before .caller-admission .ensures) (c .before .before .before .before .before .before .enum-told .given .1) _ _ (c .before .before .before .before .before .asked .ensures) _ (c .before .before .before .before .row .ensures) _ (c .before .before .before .admission .ensures) _ (c .before .answer2 .given .1)
+returns-2 c = row-refused _ (state (c .before .before .before .before .before .before .before .before .before .before .before .before .args .frames .now) (c .before .before .before .before .before .before .before .before .before .before .before .before .args .map .now) (c .before .before .before .before .before .before .before .before .before .before .before .before .args .monitor)) _ (c .before .before .before .before .before .before .before .before .before .guest .ensures) _ (c .before .before .before .before .before .before .before .before .caller-admission .ensures) (c .before .before .before .before .before .before .enum-told .given .1) _ _ (c .before .before .before .before .before .asked .ensures) _ (c .before .before .before .before .row .ensures) _ (c .before .before .before .row-admission .ensures) _ (c .before .answer2 .given .1)
 
 same-length : tie.Need-same-length
 same-length c = search needs
@@ -51,7 +51,7 @@ same-length-2 : tie.Need-same-length-2
 same-length-2 c = search needs
 
 returns-3 : tie.Need-returns-3
-returns-3 c = row-passed _ (state (c .before .before .before .before .before .before .before .before .before .before .before .before .before .before .before .before .before .before .before .args .frames .now) (c .before .before .before .before .before .before .before .before .before .before .before .before .before .before .before .before .before .before .before .args .map .now) (c .before .before .before .before .before .before .before .before .before .before .before .before .before .before .before .before .before .before .before .args .monitor)) _ (c .before .before .before .before .before .before .before .before .before .before .before .before .before .before .before .before .guest .ensures) _ (c .before .before .before .before .before .before .before .before .before .before .before .before .before .before .before .caller-admission .ensures) (c .before .before .before .before .before .before .before .before .before .before .before .before .before .enum-told .given .1) _ _ (c .before .before .before .before .before .before .before .before .before .before .before .before .asked .ensures) _ (c .before .before .before .before .before .before .before .before .before .before .before .row .ensures) _ (c .before .before .before .before .before .before .before .before .before .before .admission .ensures) (c .before .before .before .before .before .before .before .before .enum-told2 .given .1) _ (c .before .before .before .before .before .action .ensures) _ (c .before .before .before .before .act .ensures)
+returns-3 c = row-passed _ (state (c .before .before .before .before .before .before .before .before .before .before .before .before .before .before .before .before .before .before .before .args .frames .now) (c .before .before .before .before .before .before .before .before .before .before .before .before .before .before .before .before .before .before .before .args .map .now) (c .before .before .before .before .before .before .before .before .before .before .before .before .before .before .before .before .before .before .before .args .monitor)) _ (c .before .before .before .before .before .before .before .before .before .before .before .before .before .before .before .before .guest .ensures) _ (c .before .before .before .before .before .before .before .before .before .before .before .before .before .before .before .caller-admission .ensures) (c .before .before .before .before .before .before .before .before .before .before .before .before .before .enum-told .given .1) _ _ (c .before .before .before .before .before .before .before .before .before .before .before .before .asked .ensures) _ (c .before .before .before .before .before .before .before .before .before .before .before .row .ensures) _ (c .before .before .before .before .before .before .before .before .before .before .row-admission .ensures) (c .before .before .before .before .before .before .before .before .enum-told2 .given .1) _ (c .before .before .before .before .before .action .ensures) _ (c .before .before .before .before .act .ensures)
 
 pub hypercall-spec : {M : Type 1} → statement M
 hypercall-spec =
@@ -63,7 +63,7 @@ hypercall-spec =
     enum-told
     asked-requires
     row-requires
-    admission-requires
+    row-admission-requires
     enum-known-answer-2
     enum-told-2
     action-requires

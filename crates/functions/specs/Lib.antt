@@ -1,0 +1,2 @@
+pub mod Function
+pub mod Table

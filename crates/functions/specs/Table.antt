@@ -1,0 +1,93 @@
+-- Document 01, "Guest calls": the table, row by row. "NS is −1, IP is −3."
+use mathlib.Core.Bool.{Bool, true, false, cond, _&&_}
+use Prim.Native.Nat.{ℕ, _%_}
+use lib.Dec.{eqb, ltb}
+use lib.IntN.{ℤ, negsuc}
+use Rattle.words.specs.Granule.{granuleSize, isBase}
+use Rattle.records.specs.declared.answer.Answer.{Answer}
+use Rattle.records.specs.declared.answer.Answer.the-variants.{Return}
+use Rattle.records.specs.declared.guest.Guest.{Guest}
+use Rattle.granules.specs.declared.kinds.Operation.{Operation}
+use Rattle.granules.specs.Kind.{sharing, unsharing, guarding, unguarding, relinquishing}
+use Rattle.functions.specs.declared.numbers.Function.{Function}
+use Rattle.functions.specs.declared.numbers.Function.the-variants.{Features, Uid, MemoryInfo, Share, Unshare, GuardInfo, Enroll, GuardMap, GuardUnmap, Relinquish, RangeGuardMap, RangeGuardUnmap, Unknown}
+use Rattle.functions.specs.declared.rows.Registers.{Registers}
+use Rattle.functions.specs.declared.rows.Rule.{Rule}
+use Rattle.functions.specs.declared.rows.Rule.the-variants.{Any, Zero, NotZero, Base}
+use Rattle.functions.specs.declared.rows.Condition.{Condition}
+use Rattle.functions.specs.declared.rows.Condition.the-variants.{Nothing, Vendor, Enrolment}
+use Rattle.functions.specs.declared.rows.Error.{Error}
+use Rattle.functions.specs.declared.rows.Error.the-variants.{NotSupported, InvalidParameter}
+use Rattle.functions.specs.declared.rows.Row.{Row}
+use Rattle.functions.specs.declared.actions.Action.{Action}
+use Rattle.functions.specs.declared.actions.Action.the-variants as action
+
+-- "A base must be a multiple of 4,096."
+abbrev pub meets : Rule → ℕ → Bool
+meets Any x = true
+meets Zero x = eqb x 0
+meets NotZero x = ltb 0 x
+meets Base x = isBase x
+
+abbrev pub permits : Condition → Guest → Bool
+permits Nothing g = true
+permits Vendor g = eqb (g .«vendor_hyp» % 2) 1
+permits Enrolment g = g .enrolled
+
+-- "Registers not named are returned as zero."
+abbrev pub returned : ℤ → ℕ → Answer
+returned a b = Return a b 0 0
+
+abbrev pub errorAnswer : Error → Answer
+errorAnswer NotSupported = returned (negsuc 0) 0
+errorAnswer InvalidParameter = returned (negsuc 2) 0
+
+abbrev pub row : Rule → Rule → Rule → Condition → Error → Row
+row a b c d e = record { r1 = a; r2 = b; r3 = c; condition = d; error = e }
+
+-- the columns "Registers looked at" and, of "Answer", what follows "else"; "Features and UID answer NS while VENDOR_HYP bit 0 is clear";
+-- "Guard map and unmap, both kinds, need enrolment"; "a range guard call with count 0 answers NS"
+unfoldable pub rowOf : Function → Row
+rowOf Features = row Any Any Any Vendor NotSupported
+rowOf Uid = row Any Any Any Vendor NotSupported
+rowOf MemoryInfo = row Zero Zero Zero Nothing InvalidParameter
+rowOf Share = row Base Any Zero Nothing InvalidParameter
+rowOf Unshare = row Base Any Zero Nothing InvalidParameter
+rowOf GuardInfo = row Zero Zero Zero Nothing NotSupported
+rowOf Enroll = row Any Any Any Nothing NotSupported
+rowOf GuardMap = row Base Any Any Enrolment NotSupported
+rowOf GuardUnmap = row Base Any Any Enrolment NotSupported
+rowOf Relinquish = row Base Zero Zero Nothing InvalidParameter
+rowOf RangeGuardMap = row Base NotZero Any Enrolment NotSupported
+rowOf RangeGuardUnmap = row Base NotZero Any Enrolment NotSupported
+rowOf Unknown = row Any Any Any Nothing NotSupported
+
+abbrev pub registersHold : Row → Registers → Bool
+registersHold w r = meets (w .r1) (r .r1) && (meets (w .r2) (r .r2) && meets (w .r3) (r .r3))
+
+-- "Count 0 means 1 for share and unshare"
+abbrev pub atLeastOne : ℕ → ℕ
+atLeastOne n = cond (eqb n 0) 1 n
+
+-- "Share, unshare and the range guard calls work upward", and tell in R1; the others work on one granule
+abbrev pub upward : Operation → ℕ → Action
+upward o n = action.Change o n true
+
+abbrev pub single : Operation → Action
+single o = action.Change o 1 false
+
+-- the column "Answer" where nothing bars the call; R2 is the count of granules where the call has one
+unfoldable pub actionOf : Function → ℕ → Action
+actionOf Features n = action.Tell 0xFFD 0 0 0
+actionOf Uid n = action.Tell 0xB66FB428 0xE911C52E 0x564BCAA9 0x743A004D
+actionOf MemoryInfo n = action.Tell granuleSize 1 0 0
+actionOf Share n = upward sharing (atLeastOne n)
+actionOf Unshare n = upward unsharing (atLeastOne n)
+actionOf GuardInfo n = action.Tell granuleSize 1 0 0
+actionOf Enroll n = action.Enroll
+actionOf GuardMap n = single guarding
+actionOf GuardUnmap n = single unguarding
+actionOf Relinquish n = single relinquishing
+actionOf RangeGuardMap n = upward guarding n
+actionOf RangeGuardUnmap n = upward unguarding n
+actionOf Unknown n = action.Refuse
