@@ -4,3 +4,4 @@ pub mod Pieces
 pub mod Gate
 pub mod Alike
 pub mod Kept
+pub mod MadeLaws

@@ -1,0 +1,211 @@
+-- A range call, by its answer, tells of at most 64 single steps.
+use mathlib.Core.Path.{_≡_, refl, sym, ap, _∙_}
+use mathlib.Core.Bool.{Bool, true, false, _&&_}
+use mathlib.Core.List.{List, [], _∷_}
+use mathlib.Core.Option.{Option, none, some}
+use Prim.Native.Nat.{ℕ, suc, _+_, _*_, _-_, _%_, _≤_, _^_, min}
+use native.Mathlib.Omega.{arith}
+use borrow.Author.Tests.{lt-ltb, ne-eqb}
+use lib.Dec.{ltb}
+use lib.ListN.{length}
+use Rattle.runs.specs.Run.{Step, took, refuses, refused, End, ended, oneMore, onward, run, told, rangeCall}
+use Rattle.runs.proofs.Gate.{passed}
+use Rattle.runs.proofs.Kept.{Holds, kept}
+use Rattle.runs.proofs.Alike.{mapEnd}
+use Rattle.words.specs.Granule.{granuleSize, granuleOf, isBase, addressOf}
+use Rattle.words.proofs.GranuleLaws.{address-granule}
+use Rattle.tables.specs.Length.{lengthsHold}
+use Rattle.records.specs.Monitor.{guestOf}
+use Rattle.records.specs.Answer.{verdictWith, numbersOf}
+use Rattle.records.specs.State.{State, state, Answered, answered}
+use Rattle.records.specs.Tests.{Tests, firstRefusal, unlessRefused}
+use Rattle.records.specs.declared.monitor.Monitor.{Monitor}
+use Rattle.records.specs.declared.guest.Guest.{Guest}
+use Rattle.records.specs.declared.answer.Answer.{Answer}
+use Rattle.records.specs.declared.answer.Answer.the-variants.{BadLength, NoGuest, NeverRun}
+use Rattle.records.specs.declared.answer.Numbers.{Numbers}
+use Rattle.records.proofs.MonitorLaws.{live-slot}
+use Rattle.granules.specs.Step.{rangeLimit, Place, place, Refusal, isDamaged, notDone, tableStep}
+use Rattle.functions.specs.Function.{functionOf, askedBy}
+use Rattle.functions.specs.Table.{errorAnswer, rowOf, actionOf}
+use Rattle.functions.specs.declared.numbers.Function.{Function}
+use Rattle.functions.specs.declared.numbers.Function.the-variants.{Share, Unshare, RangeGuardMap, RangeGuardUnmap}
+use Rattle.functions.specs.declared.actions.Action.the-variants as action
+use Rattle.functions.specs.declared.rows.Error.{Error}
+use Rattle.functions.specs.declared.rows.Error.the-variants.{NotSupported, InvalidParameter}
+use Rattle.guest.specs.Calls.{callerTests, rowTests, finished, actOf, hypercallOf}
+use Rattle.claims.specs.SingleSteps.{RangeCall, share, unshare, rangeGuardMap, rangeGuardUnmap, numberOf, errorOf, registersRight, enrolmentRight, At, at, singleStep}
+use Rattle.claims.specs.Pieces.{registers, readCall, callAt}
+use Rattle.claims.proofs.Took.{step-took}
+use Rattle.claims.proofs.StepAgrees.{operationOf, granuleStep, located, numbersBy, agrees}
+use Rattle.claims.proofs.BeforeGranules.{callRefusal, steps-gated, call-passed, stays}
+
+abbrev pub functionBy : RangeCall → Function
+functionBy share = Share
+functionBy unshare = Unshare
+functionBy rangeGuardMap = RangeGuardMap
+functionBy rangeGuardUnmap = RangeGuardUnmap
+
+pub number-asked : (c : RangeCall) → functionOf (numberOf c) ≡ functionBy c
+unfolding functionOf
+number-asked share = refl
+number-asked unshare = refl
+number-asked rangeGuardMap = refl
+number-asked rangeGuardUnmap = refl
+
+abbrev errorBy : RangeCall → Error
+errorBy share = InvalidParameter
+errorBy unshare = InvalidParameter
+errorBy rangeGuardMap = NotSupported
+errorBy rangeGuardUnmap = NotSupported
+
+-- how a call's answer reads where a test refused it, and where none did
+abbrev unless : Option Numbers → At → End At Numbers → End At Numbers
+unless none p e = e
+unless (some n) p e = ended 0 p (refused n)
+
+error-read : (c : RangeCall) (b : ℕ) (s : State) → readCall b (answered s (errorAnswer (errorBy c))) ≡ ended 0 (at b s) (refused (errorOf c))
+unfolding numbersOf
+error-read share b s = refl
+error-read unshare b s = refl
+error-read rangeGuardMap b s = refl
+error-read rangeGuardUnmap b s = refl
+
+tests-read : (c : RangeCall) (x₁ x₂ x₃ x₄ x₅ : Bool) (b : ℕ) (s : State) (done : Answered)
+    → readCall b
+    (unlessRefused (firstRefusal ((x₁, BadLength) ∷ (x₂, NoGuest) ∷ (x₃, NeverRun) ∷ [])) s
+    (unlessRefused (firstRefusal ((x₄, errorAnswer (errorBy c)) ∷ (x₅, errorAnswer (errorBy c)) ∷ [])) s done))
+    ≡ unless (firstRefusal ((x₁, verdictWith 1 0) ∷ (x₂, verdictWith 2 0) ∷ (x₃, verdictWith 3 0) ∷ (x₄, errorOf c) ∷ (x₅, errorOf c) ∷ [])) (at b s) (readCall b done)
+unfolding numbersOf
+tests-read c false x₂ x₃ x₄ x₅ b s done = refl
+tests-read c true false x₃ x₄ x₅ b s done = refl
+tests-read c true true false x₄ x₅ b s done = refl
+tests-read c true true true false x₅ b s done = error-read c b s
+tests-read c true true true true false b s done = error-read c b s
+tests-read c true true true true true b s done = refl
+
+and-true : (a : Bool) → a && true ≡ a
+and-true true = refl
+and-true false = refl
+
+pub and-false : (a : Bool) → a && false ≡ false
+and-false true = refl
+and-false false = refl
+
+-- the row of the table, the action and the error of a range call with a count of at least 1
+row-tests : (c : RangeCall) (r0 b m r3 : ℕ) (g : Guest) → 1 ≤ m
+    → rowTests (rowOf (functionBy c)) (registers r0 b m r3) g
+    ≡ (registersRight c b r3, errorAnswer (errorBy c)) ∷ (enrolmentRight c g, errorAnswer (errorBy c)) ∷ []
+unfolding rowOf
+row-tests share r0 b m r3 g h = refl
+row-tests unshare r0 b m r3 g h = refl
+row-tests rangeGuardMap r0 b m r3 g h = rw (lt-ltb 0 m h, and-true (isBase b))
+row-tests rangeGuardUnmap r0 b m r3 g h = rw (lt-ltb 0 m h, and-true (isBase b))
+
+row-error : (c : RangeCall) → rowOf (functionBy c) .error ≡ errorBy c
+unfolding rowOf
+row-error share = refl
+row-error unshare = refl
+row-error rangeGuardMap = refl
+row-error rangeGuardUnmap = refl
+
+row-action : (c : RangeCall) (m : ℕ) → 1 ≤ m → actionOf (functionBy c) m ≡ action.Change (operationOf c) m true
+unfolding actionOf
+row-action share m h = rw (ne-eqb m 0 (omega arith))
+row-action unshare m h = rw (ne-eqb m 0 (omega arith))
+row-action rangeGuardMap m h = refl
+row-action rangeGuardUnmap m h = refl
+
+slot-live : (m : Monitor) (v : ℕ) → ltb v 8 && guestOf m v .live ≡ guestOf m v .live
+slot-live m v = on (guestOf m v .live) refl
+  where
+    on : (a : Bool) → guestOf m v .live ≡ a → ltb v 8 && a ≡ a
+    on true e = rw (lt-ltb v 8 (live-slot m v e))
+    on false e = and-false (ltb v 8)
+
+module _ (c : RangeCall) (r0 : ℕ) (number : r0 % 2 ^ 32 ≡ numberOf c) (v r3 : ℕ) where
+  -- the granules that a call works on
+  abbrev worked : ℕ → At → End Place Refusal
+  worked m (at b s) = run (tableStep (operationOf c) v) (min rangeLimit m) (place (s .map) (s .frames) (granuleOf b))
+
+  call-reads : (m b : ℕ) (s : State) → 1 ≤ m
+      → callAt r0 v r3 m (at b s) ≡ unless (callRefusal c v r3 (at b s)) (at b s) (readCall b (finished (errorBy c) true (s .monitor) (worked m (at b s))))
+  unfolding hypercallOf actOf
+  call-reads m b s h =
+      let guest = guestOf (s .monitor) v in
+      let first = firstRefusal (callerTests (length (s .frames)) (length (s .map)) guest) in
+      let r = registers r0 b m r3 in
+      let asks : askedBy r0 ≡ functionBy c = ap functionOf number ∙ number-asked c in
+      let done = finished (errorBy c) true (s .monitor) (worked m (at b s)) in
+      ap (λ (f : Function). readCall b (unlessRefused first s (unlessRefused (firstRefusal (rowTests (rowOf f) r guest)) s (actOf v b (rowOf f .error) (actionOf f m) s)))) asks
+      ∙ ap (λ (ts : Tests Answer). readCall b (unlessRefused first s (unlessRefused (firstRefusal ts) s (actOf v b (rowOf (functionBy c) .error) (actionOf (functionBy c) m) s)))) (row-tests c r0 b m r3 guest h)
+      ∙ rw (row-error c, row-action c m h, slot-live (s .monitor) v)
+      (tests-read c (lengthsHold (length (s .frames)) (length (s .map))) (guest .live) (guest .run) (registersRight c b r3) (enrolmentRight c guest) b s done)
+
+  -- a range works upward: after k granules it stands k further
+  Upward : ℕ → ℕ → Place → Type 0
+  Upward g k (place map frames g′) = g′ ≡ g + k
+
+  upward : (n : ℕ) (map frames : List ℕ) (g : ℕ) → Holds (Upward g) 0 (run (tableStep (operationOf c) v) n (place map frames g))
+  unfolding Upward
+  upward n map frames g = kept (Upward g) (tableStep (operationOf c) v) next n 0 (place map frames g) (omega arith)
+    where
+      next : (k : ℕ) (p q : Place) → Upward g k p → tableStep (operationOf c) v p ≡ took q → Upward g (suc k) q
+      next k (place map frames h) (place map′ frames′ h′) i e =
+          omega (arith, step-took (operationOf c) v map frames h (place map′ frames′ h′) e .next-granule)
+
+  -- what a call answers reads as what the run of its granules tells
+  module _ (b : ℕ) (m : Monitor) (map frames : List ℕ) (g : ℕ) (eb : addressOf g ≡ b) where
+    abbrev answers : End Place Refusal → End At Numbers
+    answers e = readCall b (finished (errorBy c) true m e)
+
+    abbrev tells : End Place Refusal → End At Numbers
+    tells e = told (mapEnd (located m) (numbersBy c) e)
+
+    done-read : (e : End Place Refusal) → Holds (Upward g) 0 (oneMore e) → answers (oneMore e) ≡ tells (oneMore e)
+    unfolding Upward numbersOf
+    done-read (ended k (place map′ frames′ g′) r) i =
+        let there : b + granuleSize * suc k ≡ addressOf g′ = omega arith in
+        rw there
+
+    none-read : (r : Refusal) → answers (ended 0 (place map frames g) (refused r)) ≡ tells (ended 0 (place map frames g) (refused r))
+    unfolding numbersOf
+    none-read isDamaged = rw eb
+    none-read notDone = rw eb (error-read c b (state frames map m))
+
+    run-read : (n : ℕ) → answers (run (tableStep (operationOf c) v) (suc n) (place map frames g)) ≡ tells (run (tableStep (operationOf c) v) (suc n) (place map frames g))
+    run-read n = on (tableStep (operationOf c) v (place map frames g)) (upward (suc n) map frames g)
+      where
+        more : Place → End Place Refusal
+        more t = run (tableStep (operationOf c) v) n t
+
+        on : (o : Step Place Refusal) → Holds (Upward g) 0 (onward more (place map frames g) o) → answers (onward more (place map frames g) o) ≡ tells (onward more (place map frames g) o)
+        on (took t) h = done-read (more t) h
+        on (refuses r) h = none-read r
+
+  -- "each stops after 64 granules, at the count, or before the first granule that can't be done": a call is at most 64 of the single steps
+  pub call-agrees : (m : ℕ) (p : At) → 1 ≤ m → callAt r0 v r3 m p ≡ rangeCall (singleStep c v r3) rangeLimit m p
+  call-agrees m (at b s) h = call-reads m b s h ∙ on (callRefusal c v r3 (at b s)) refl
+    where
+      n : ℕ
+      n = min rangeLimit m - 1
+
+      some-steps : min rangeLimit m ≡ suc n
+      some-steps = omega arith
+
+      on : (q : Option Numbers) → callRefusal c v r3 (at b s) ≡ q
+          → unless q (at b s) (readCall b (finished (errorBy c) true (s .monitor) (worked m (at b s)))) ≡ told (run (singleStep c v r3) (min rangeLimit m) (at b s))
+      on none e =
+          let g = granuleOf b in
+          let passes = call-passed c v r3 b s e in
+          let base : addressOf g ≡ b = address-granule b (passes .base) in
+          let p = place (s .map) (s .frames) g in
+          let start : located (s .monitor) p ≡ at b s = rw base in
+          rw some-steps
+          (run-read b (s .monitor) (s .map) (s .frames) g base n
+          ∙ ap told
+          (sym (agrees c v (passes .slot) (s .monitor) (suc n) p)
+          ∙ ap (run (granuleStep c v) (suc n)) start
+          ∙ sym (passed (callRefusal c v r3) (granuleStep c v) (stays c v r3) (suc n) (at b s) e)
+          ∙ sym (steps-gated c v r3 (suc n) (at b s))))
+      on (some r) e = rw (some-steps, steps-gated c v r3 (suc n) (at b s), e)

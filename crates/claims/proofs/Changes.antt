@@ -1,0 +1,156 @@
+-- Each single step that is taken changes one map word, at a place that no step before it changed, so the steps done are the words that differ.
+use mathlib.Core.Path.{_≡_, refl, sym, ap, _∙_}
+use mathlib.Core.Logic.{_≢_}
+use mathlib.Core.Bool.{Bool, true, false, cond}
+use mathlib.Core.List.{List, [], _∷_}
+use mathlib.Core.Option.{Option, none, some}
+use Prim.Native.Nat.{ℕ, zero, suc, _+_, _<_, _≤_}
+use native.Mathlib.Nat.{zero-add}
+use native.Mathlib.Omega.{arith}
+use borrow.Author.Tests.{eq-eqb, ne-eqb, ltb-true}
+use lib.Dec.{eqb, ltb}
+use lib.ListN.{length, getD, set, length-set}
+use lib.Seq.{getD-set-other}
+use Rattle.runs.specs.Run.{Step, took, End, ended, gated, run}
+use Rattle.runs.proofs.Kept.{Holds, kept}
+use Rattle.words.specs.Granule.{granuleSize, granuleOf}
+use Rattle.words.specs.MapWord.{mapBits, mapWordOf}
+use Rattle.words.specs.declared.map_word.MapWord.the-variants as map-word
+use Rattle.words.proofs.MapWordLaws.{map-encode-decode}
+use Rattle.tables.specs.Length.{widthOf}
+use Rattle.tables.specs.Row.{wordIndex, wordAt}
+use Rattle.tables.specs.Pair.{granuleState, pairAt}
+use Rattle.tables.specs.declared.pairs.GranuleState.{GranuleState}
+use Rattle.tables.specs.declared.pairs.GranuleState.the-variants as granule-state
+use Rattle.tables.proofs.RowLaws.{row-inside}
+use Rattle.tables.proofs.Found.{mapWordBy, granule-says}
+use Rattle.records.specs.Answer.{verdictWith}
+use Rattle.records.specs.State.{State}
+use Rattle.records.specs.Tests.{firstRefusal}
+use Rattle.records.specs.declared.answer.Numbers.{Numbers}
+use Rattle.claims.specs.SingleSteps.{RangeCall, share, unshare, rangeGuardMap, rangeGuardUnmap, errorOf, undamaged, kindRight, frameIn, wordMade, changedAt, At, at, singleStep}
+use Rattle.claims.specs.Pieces.{differing, CountsChanges}
+use Rattle.claims.proofs.StepAgrees.{granuleTests, granuleStep, pair-inside}
+use Rattle.claims.proofs.BeforeGranules.{callRefusal, step-gated, through, Passed, call-passed, gated-took}
+
+-- the word made differs from the word of the kind that the call needs
+other-word : (c : RangeCall) (k : GranuleState) → kindRight c k ≡ true → (w : ℕ) → mapBits (mapWordBy k) ≡ w → w ≢ wordMade c (frameIn k)
+unfolding mapBits
+other-word c granule-state.Damaged h w e = let z : _≡_ {A = ℕ} 0 1 = cc in absurd (omega arith)
+other-word share granule-state.Vacant h w e = let z : _≡_ {A = ℕ} 0 1 = cc in absurd (omega arith)
+other-word share (granule-state.Frame true f) h w e = let z : _≡_ {A = ℕ} 0 1 = cc in absurd (omega arith)
+other-word share (granule-state.Frame false f) h w e = omega arith
+other-word share granule-state.Guarded h w e = let z : _≡_ {A = ℕ} 0 1 = cc in absurd (omega arith)
+other-word unshare granule-state.Vacant h w e = let z : _≡_ {A = ℕ} 0 1 = cc in absurd (omega arith)
+other-word unshare (granule-state.Frame true f) h w e = omega arith
+other-word unshare (granule-state.Frame false f) h w e = let z : _≡_ {A = ℕ} 0 1 = cc in absurd (omega arith)
+other-word unshare granule-state.Guarded h w e = let z : _≡_ {A = ℕ} 0 1 = cc in absurd (omega arith)
+other-word rangeGuardMap granule-state.Vacant h w e = omega arith
+other-word rangeGuardMap (granule-state.Frame s f) h w e = let z : _≡_ {A = ℕ} 0 1 = cc in absurd (omega arith)
+other-word rangeGuardMap granule-state.Guarded h w e = let z : _≡_ {A = ℕ} 0 1 = cc in absurd (omega arith)
+other-word rangeGuardUnmap granule-state.Vacant h w e = let z : _≡_ {A = ℕ} 0 1 = cc in absurd (omega arith)
+other-word rangeGuardUnmap (granule-state.Frame s f) h w e = let z : _≡_ {A = ℕ} 0 1 = cc in absurd (omega arith)
+other-word rangeGuardUnmap granule-state.Guarded h w e = omega arith
+
+-- a kind that is right is not damaged, and then the word is that of the state
+undamaged-kind : (c : RangeCall) (k : GranuleState) → kindRight c k ≡ true → k ≢ granule-state.Damaged
+undamaged-kind c k h e = let f : kindRight c k ≡ false = rw e in let z : _≡_ {A = ℕ} 0 1 = cc in omega arith
+
+damaged-word : (k : GranuleState) → mapWordBy k ≡ map-word.Damaged → k ≡ granule-state.Damaged
+damaged-word granule-state.Vacant e = cc
+damaged-word (granule-state.Frame s f) e = cc
+damaged-word granule-state.Guarded e = cc
+damaged-word granule-state.Damaged e = refl
+
+state-word : (frames : List ℕ) (v g w : ℕ) (k : GranuleState) → k ≡ granuleState frames v g (mapWordOf w) → k ≢ granule-state.Damaged → mapBits (mapWordBy k) ≡ w
+state-word frames v g w k e n =
+    let says : mapWordOf w ≡ mapWordBy k = granule-says frames v g (mapWordOf w) k e n in
+    ap mapBits (sym says) ∙ map-encode-decode w (λ d. n (damaged-word k (sym says ∙ d)))
+
+-- what a single step that is taken has passed, and where it goes
+pub record SingleTook (c : RangeCall) (v b : ℕ) (s : State) (t : At) : Type 0 where
+  pub passed : Passed v b s
+  pub below : granuleOf b < widthOf (length (s .map))
+  pub word : wordAt (s .map) v (granuleOf b) ≢ wordMade c (frameIn (pairAt (s .frames) (s .map) v (granuleOf b)))
+  pub to : at (b + granuleSize) (changedAt c v b s) ≡ t
+
+gated-passed : (q : Option Numbers) (o : Step At Numbers) (t : At) → gated q o ≡ took t → (q ≡ none) × (o ≡ took t)
+gated-passed none o t e = (refl, e)
+gated-passed (some r) o t e = (cc, cc)
+
+pub single-took : (c : RangeCall) (v r3 b : ℕ) (s : State) (t : At) → singleStep c v r3 (at b s) ≡ took t → SingleTook c v b s t
+single-took c v r3 b s t e =
+    let g = granuleOf b in
+    let k = pairAt (s .frames) (s .map) v g in
+    let h = gated-passed (callRefusal c v r3 (at b s)) (granuleStep c v (at b s)) t (sym (step-gated c v r3 (at b s)) ∙ e) in
+    let u = gated-took (firstRefusal (granuleTests c v b s)) (at (b + granuleSize) (changedAt c v b s)) t (h .1) in
+    let q₃ = cond (kindRight c k) none (some (errorOf c)) in
+    let q₂ = cond (undamaged k) q₃ (some (verdictWith 6 0)) in
+    let h₁ = through (ltb g (widthOf (length (s .map)))) q₂ (errorOf c) (u .0) in
+    let h₂ = through (undamaged k) q₃ (verdictWith 6 0) (h₁ .1) in
+    let h₃ = through (kindRight c k) none (errorOf c) (h₂ .1) in
+    let passes = call-passed c v r3 b s (h .0) in
+    record {
+      passed = passes;
+      below = ltb-true g (widthOf (length (s .map))) (h₁ .0);
+      word =
+          other-word c k (h₃ .0) (wordAt (s .map) v g)
+          (state-word (s .frames) v g (wordAt (s .map) v g) k (pair-inside (s .frames) (s .map) v g (passes .slot) (h₁ .0)) (undamaged-kind c k (h₃ .0)));
+      to = u .1;
+    }
+
+differing-none : (l : List ℕ) → differing l l ≡ 0
+differing-none [] = refl
+differing-none (x ∷ xs) = rw (eq-eqb x x refl) (differing-none xs)
+
+one-more : (a : Bool) (n : ℕ) → cond a (suc n) (suc (suc n)) ≡ suc (cond a n (suc n))
+one-more true n = refl
+one-more false n = refl
+
+-- a word set to another than it was, where nothing differed, is one more that differs
+differing-set : (l m : List ℕ) (i y : ℕ) → length m ≡ length l → i < length m → getD m i 0 ≡ getD l i 0 → getD l i 0 ≢ y
+    → differing l (set m i y) ≡ suc (differing l m)
+differing-set [] m i y hl h e n = absurd (omega arith)
+differing-set (x ∷ xs) [] i y hl h e n = absurd (omega arith)
+differing-set (x ∷ xs) (z ∷ zs) zero y hl h e n = rw (ne-eqb x y n, eq-eqb x z (sym e))
+differing-set (x ∷ xs) (z ∷ zs) (suc i) y hl h e n =
+    rw (differing-set xs zs i y (omega arith) (omega arith) e n) (one-more (eqb x z) (differing xs zs))
+
+-- after k steps of slot v from the state s, before the address b: the words from there on are those of s, and k words differ
+record Sofar (v : ℕ) (s : State) (k b : ℕ) (t : State) : Type 0 where
+  lengths : length (t .map) ≡ length (s .map)
+  ahead : (i : ℕ) → wordIndex (length (s .map)) v (granuleOf b) ≤ i → getD (t .map) i 0 ≡ getD (s .map) i 0
+  count : k ≡ differing (s .map) (t .map)
+
+SofarAt : ℕ → State → ℕ → At → Type 0
+SofarAt v s k (at b t) = Sofar v s k b t
+
+module _ (c : RangeCall) (v r3 : ℕ) (s : State) where
+  next : (k : ℕ) (p q : At) → SofarAt v s k p → singleStep c v r3 p ≡ took q → SofarAt v s (suc k) q
+  unfolding SofarAt
+  next k (at b t) q i e =
+      let u = single-took c v r3 b t q e in
+      let g = granuleOf b in
+      let width : widthOf (length (t .map)) ≡ widthOf (length (s .map)) = ap widthOf (i .lengths) in
+      let x = wordIndex (length (t .map)) v g in
+      let y = wordMade c (frameIn (pairAt (t .frames) (t .map) v g)) in
+      let index : x ≡ wordIndex (length (s .map)) v g = rw width in
+      let inside = row-inside (length (t .map)) v (u .passed .slot) in
+      let same : getD (t .map) x 0 ≡ getD (s .map) x 0 = i .ahead x (omega (arith, index)) in
+      rw (← (u .to))
+      (record {
+        lengths = length-set (t .map) x y ∙ i .lengths;
+        ahead = λ j h. getD-set-other (t .map) x j y 0 (omega (arith, index)) ∙ i .ahead j (omega arith);
+        count = ap suc (i .count) ∙ sym (differing-set (s .map) (t .map) x y (i .lengths) (omega (arith, inside, u .below)) same (λ z. u .word (same ∙ z)));
+      })
+
+  counts : (e : End At Numbers) → Holds (SofarAt v s) 0 e → CountsChanges s e
+  unfolding SofarAt
+  counts (ended k (at b t) r) h = sym (zero-add k) ∙ h .count
+
+  -- the steps done are the map words that differ from the start
+  pub single-steps-count : (n b : ℕ) → CountsChanges s (run (singleStep c v r3) n (at b s))
+  unfolding SofarAt
+  single-steps-count n b =
+      counts (run (singleStep c v r3) n (at b s))
+      (kept (SofarAt v s) (singleStep c v r3) next n 0 (at b s) (record { lengths = refl; ahead = λ i h. refl; count = sym (differing-none (s .map)) }))

@@ -1,0 +1,60 @@
+-- What the customer asks for, each with the words that ask for it. The definitions are in specs/; all else in proofs/ only helps to prove these.
+-- No theorem assumes anything of the state: lengths, tables and records may be sound or damaged.
+use mathlib.Core.Path.{_≡_, refl}
+use mathlib.Core.List.{List, map}
+use Prim.Native.Nat.{ℕ, _%_, _<_, _^_}
+use Rattle.runs.specs.Run.{sum}
+use Rattle.runs.specs.Made.{callsMade, Every}
+use Rattle.runs.proofs.Pieces.{pieces-run}
+use Rattle.words.specs.MapWord.{mapBits, mapWordOf}
+use Rattle.words.specs.FrameWord.{frameBits, frameWordOf}
+use Rattle.tables.specs.Length.{framesHold, mapHolds}
+use Rattle.tables.specs.Pair.{granuleState, pairAt}
+use Rattle.records.specs.Monitor.{guestOf, withGuest}
+use Rattle.records.specs.Answer.{numbersOf}
+use Rattle.records.specs.State.{State}
+use Rattle.granules.specs.Kind.{changeOf}
+use Rattle.granules.specs.Step.{rangeLimit, stepFrom}
+use Rattle.functions.specs.Function.{functionOf}
+use Rattle.functions.specs.Table.{rowOf, actionOf}
+use Rattle.functions.specs.declared.rows.Registers.{Registers}
+use Rattle.guest.specs.Calls.{actOf, hypercallOf, accessOf, abortOf}
+use Rattle.claims.specs.SingleSteps.{RangeCall, numberOf, at, singleStep, takenSingly}
+use Rattle.claims.specs.Pieces.{registers, callAt, carriedOn, CountsChanges, AddressFits}
+use Rattle.claims.specs.R1.{TellsChanges}
+use Rattle.claims.specs.Footprint.{Within}
+use Rattle.claims.specs.Cases.{cases, found, expected}
+use Rattle.claims.proofs.CallAgrees.{call-agrees}
+use Rattle.claims.proofs.Changes.{single-steps-count}
+use Rattle.claims.proofs.Addresses.{calls-fit}
+use Rattle.claims.proofs.R1Laws.{tells-changes}
+use Rattle.claims.proofs.FootprintLaws.{hypercall-within}
+use native.Mathlib.Omega.{arith}
+
+-- A range call of slot v: R0 has the number of one of the four calls in its low half, and anything above.
+module _ (c : RangeCall) (r0 : ℕ) (number : r0 % 2 ^ 32 ≡ numberOf c) (v b r3 : ℕ) (s : State) where
+  -- Condition 3: "A range call cut into any list of pieces, carried on from where R1 says, ends as the granules taken one at a time: same
+  -- tables, records, count, refusal. One theorem over every list, from any tables, sound or damaged." The count is the number of map words
+  -- that differ from the start. (A piece of 0 sends no call, so it needs no exception.)
+  pub pieces-are-single-steps : (ms : List ℕ)
+      → (carriedOn r0 v r3 ms (at b s) ≡ takenSingly c v r3 (sum ms) (at b s)) × CountsChanges s (carriedOn r0 v r3 ms (at b s))
+  pieces-are-single-steps ms =
+      let same = pieces-run (singleStep c v r3) rangeLimit (omega arith) (callAt r0 v r3) (λ m p h. call-agrees c r0 number v r3 m p h) ms (at b s) in
+      (same, rw same (single-steps-count c v r3 s (sum ms) b))
+
+  -- and each address that is carried on fits a register
+  pub carried-addresses-fit : (ms : List ℕ) → b < 2 ^ 64 → Every AddressFits (callsMade (callAt r0 v r3) ms (at b s))
+  carried-addresses-fit ms h = calls-fit c v r3 r0 number ms (at b s) h
+
+  -- "R1 is the number of granules changed by this call": of one call with any count in R2
+  pub r1-is-what-changed : (n : ℕ) → TellsChanges s (hypercallOf v (registers r0 b n r3) s)
+  r1-is-what-changed n = tells-changes c r0 number v b r3 s n
+
+-- "A hypercall writes only the caller's row, .. the words of frames named in that row, and the caller's record."
+pub footprint : (v : ℕ) (r : Registers) (s : State) → Within v s (hypercallOf v r s .left)
+footprint v r s = hypercall-within v r s
+
+-- "Cases marked * are proved about the rules themselves, together, as one table under one statement"
+pub case-table : map found cases ≡ map expected cases
+unfolding hypercallOf abortOf actOf accessOf functionOf rowOf actionOf stepFrom changeOf granuleState pairAt mapWordOf frameWordOf mapBits frameBits numbersOf guestOf withGuest framesHold mapHolds
+case-table = refl

@@ -1,0 +1,9 @@
+pub mod Claims
+pub mod Took
+pub mod StepAgrees
+pub mod BeforeGranules
+pub mod CallAgrees
+pub mod Changes
+pub mod Addresses
+pub mod R1Laws
+pub mod FootprintLaws

@@ -1,0 +1,118 @@
+-- A call of m granules tells of a run of at least one step: it did some, and they differ, or it was refused at the first, and nothing changed.
+use mathlib.Core.Path.{_≡_, refl, ap, _∙_}
+use mathlib.Core.Bool.{Bool, true, false, cond, _&&_}
+use mathlib.Core.List.{[], _∷_}
+use Prim.Native.Nat.{ℕ, zero, suc, _+_, _*_, _-_, _%_, _≤_, _^_, min}
+use native.Mathlib.Omega.{arith}
+use Rattle.runs.specs.Run.{Step, took, refuses as refusing, Stop, complete, refused, End, ended, countOf, oneMore, onward, run, told}
+use Rattle.runs.proofs.Runs.{run-at-most}
+use lib.ListN.{length}
+use Rattle.words.specs.Granule.{granuleSize, isBase}
+use Rattle.tables.specs.Length.{lengthsHold}
+use Rattle.records.specs.Answer.{numbersOf}
+use Rattle.records.specs.State.{State, Answered, answered}
+use Rattle.records.specs.Tests.{firstRefusal, unlessRefused}
+use Rattle.records.specs.Monitor.{guestOf}
+use Rattle.records.specs.declared.answer.Answer.{Answer}
+use Rattle.records.specs.declared.answer.Answer.the-variants.{BadLength, NoGuest, NeverRun}
+use Rattle.records.specs.declared.answer.Numbers.{Numbers}
+use Rattle.granules.specs.Step.{rangeLimit}
+use Rattle.functions.specs.Function.{functionOf, askedBy}
+use Rattle.functions.specs.Table.{errorAnswer, row, rowOf, actionOf}
+use Rattle.functions.specs.declared.numbers.Function.{Function}
+use Rattle.functions.specs.declared.numbers.Function.the-variants.{Share, Unshare, RangeGuardMap, RangeGuardUnmap}
+use Rattle.functions.specs.declared.rows.Rule.the-variants.{Any, NotZero, Base}
+use Rattle.functions.specs.declared.rows.Condition.the-variants.{Enrolment}
+use Rattle.functions.specs.declared.rows.Error.the-variants.{NotSupported}
+use Rattle.guest.specs.Calls.{actOf, hypercallOf}
+use Rattle.claims.specs.SingleSteps.{RangeCall, share, unshare, rangeGuardMap, rangeGuardUnmap, numberOf, At, at, singleStep}
+use Rattle.claims.specs.Pieces.{registers, refuses, callAt, differing, CountsChanges}
+use Rattle.claims.specs.R1.{TellsChanges}
+use Rattle.claims.proofs.CallAgrees.{functionBy, number-asked, and-false, call-agrees}
+use Rattle.claims.proofs.Changes.{single-steps-count}
+
+-- a run of one step or more did some, or was refused where it began
+data Shape (s : At) : End At Numbers → Type 0 where
+  some : (k : ℕ) (b : ℕ) (t : State) (r : Stop Numbers) → Shape s (ended (suc k) (at b t) r)
+  first : (r : Numbers) → Shape s (ended 0 s (refused r))
+
+run-shape : (step : At → Step At Numbers) (n : ℕ) (s : At) → Shape s (run step (suc n) s)
+run-shape step n s = on (step s)
+  where
+    more : (e : End At Numbers) → Shape s (oneMore e)
+    more (ended k (at b t) r) = some k b t r
+
+    on : (o : Step At Numbers) → Shape s (onward (λ t. run step n t) s o)
+    on (took t) = more (run step n t)
+    on (refusing r) = first r
+
+-- an answer a with the state t at b, that reads as what a run told
+read-told : (s t : State) (b : ℕ) (a : Numbers) (e : End At Numbers) → Shape (at b s) e → countOf e ≤ rangeLimit → CountsChanges s e
+    → (x : Bool) → cond x (ended 0 (at b t) (refused a)) (ended (a .v1) (at (b + granuleSize * a .v1) t) complete) ≡ told e
+    → (x ≡ false → (1 ≤ a .v1) × (a .v1 ≤ rangeLimit) × (a .v1 ≡ differing (s .map) (t .map))) × (x ≡ true → t ≡ s)
+read-told s t b a e (some k b′ t′ r) few counts false h =
+    let told-count : a .v1 ≡ suc k = cc in
+    let same : t ≡ t′ = cc in
+    (λ z. (omega arith, omega arith, told-count ∙ counts ∙ rw same), λ z. let y : _≡_ {A = ℕ} 0 1 = cc in absurd (omega arith))
+read-told s t b a e (some k b′ t′ r) few counts true h = let z : _≡_ {A = ℕ} 0 (suc k) = cc in absurd (omega arith)
+read-told s t b a e (first r) few counts false h = let z : _≡_ {A = ℕ} 0 1 = cc in absurd (omega arith)
+read-told s t b a e (first r) few counts true h = (λ z. let y : _≡_ {A = ℕ} 0 1 = cc in absurd (omega arith), λ z. cc)
+
+module _ (c : RangeCall) (r0 : ℕ) (number : r0 % 2 ^ 32 ≡ numberOf c) (v b r3 : ℕ) (s : State) where
+  called : ℕ → Answered
+  called m = hypercallOf v (registers r0 b m r3) s
+
+  -- a call with a count of 1 or more
+  counted : (m : ℕ) → 1 ≤ m → TellsChanges s (called m)
+  unfolding called
+  counted m h =
+      let n = min rangeLimit m - 1 in
+      let steps : min rangeLimit m ≡ suc n = omega arith in
+      let e = run (singleStep c v r3) (suc n) (at b s) in
+      let few = run-at-most (singleStep c v r3) (suc n) (at b s) in
+      let reads : callAt r0 v r3 m (at b s) ≡ told e = rw steps at (call-agrees c r0 number v r3 m (at b s) h) in
+      let a = numbersOf (called m .answer) in
+      let p = read-told s (called m .left) b a e (run-shape (singleStep c v r3) n (at b s)) (omega arith) (single-steps-count c v r3 s (suc n) b) (refuses a) reads in
+      record { done = p .0; none = p .1 }
+
+  -- "Count 0 means 1 for share and unshare"
+  zero-is-one : (f : Function) → askedBy r0 ≡ f → actionOf f 0 ≡ actionOf f 1 → rowOf f .r2 ≡ Any → called 0 ≡ called 1
+  unfolding hypercallOf called
+  zero-is-one f e same any = rw (e, same, any)
+
+  refused-tells : (a : Answer) → refuses (numbersOf a) ≡ true → TellsChanges s (answered s a)
+  refused-tells a h = record { done = λ e. let z : _≡_ {A = ℕ} 0 1 = cc in absurd (omega arith); none = λ e. refl }
+
+  -- "a range guard call with count 0 answers NS"
+  registers-wrong : (x₁ x₂ x₃ x₄ x₅ : Bool) (done : Answered) → x₄ ≡ false
+      → TellsChanges s
+      (unlessRefused (firstRefusal ((x₁, BadLength) ∷ (x₂, NoGuest) ∷ (x₃, NeverRun) ∷ [])) s
+      (unlessRefused (firstRefusal ((x₄, errorAnswer NotSupported) ∷ (x₅, errorAnswer NotSupported) ∷ [])) s done))
+  unfolding numbersOf
+  registers-wrong false x₂ x₃ x₄ x₅ done h = refused-tells BadLength refl
+  registers-wrong true false x₃ x₄ x₅ done h = refused-tells NoGuest refl
+  registers-wrong true true false x₄ x₅ done h = refused-tells NeverRun refl
+  registers-wrong true true true x₄ x₅ done h = rw h (refused-tells (errorAnswer NotSupported) refl)
+
+  zero-refused : (f : Function) → askedBy r0 ≡ f → rowOf f ≡ row Base NotZero Any Enrolment NotSupported → TellsChanges s (called 0)
+  unfolding hypercallOf called
+  zero-refused f e same =
+      let guest = guestOf (s .monitor) v in
+      rw (e, same)
+      (registers-wrong (lengthsHold (length (s .frames)) (length (s .map))) (guest .live) (guest .run) (isBase b && false) (guest .enrolled)
+      (actOf v b NotSupported (actionOf f 0) s) (and-false (isBase b)))
+
+  zero-count : TellsChanges s (called 0)
+  unfolding rowOf actionOf
+  zero-count = on c (ap functionOf number ∙ number-asked c)
+    where
+      on : (c : RangeCall) → askedBy r0 ≡ functionBy c → TellsChanges s (called 0)
+      on share e = rw (zero-is-one Share e refl refl) (counted 1 (omega arith))
+      on unshare e = rw (zero-is-one Unshare e refl refl) (counted 1 (omega arith))
+      on rangeGuardMap e = zero-refused RangeGuardMap e refl
+      on rangeGuardUnmap e = zero-refused RangeGuardUnmap e refl
+
+  pub tells-changes : (m : ℕ) → TellsChanges s (hypercallOf v (registers r0 b m r3) s)
+  unfolding called
+  tells-changes zero = zero-count
+  tells-changes (suc m) = counted (suc m) (omega arith)

@@ -1,0 +1,5 @@
+pub mod SingleSteps
+pub mod Pieces
+pub mod R1
+pub mod Footprint
+pub mod Cases

@@ -1,0 +1,16 @@
+-- Document 01, "Guest calls": "If at least one was done it answers 0, and R1 is the number of granules changed by this call. If none was done,
+-- it answers IP or NS with R1 = 0, or verdict 6 if that granule is damaged."
+use mathlib.Core.Path.{_≡_}
+use mathlib.Core.Bool.{true, false}
+use Prim.Native.Nat.{_≤_}
+use Rattle.records.specs.Answer.{numbersOf}
+use Rattle.records.specs.State.{State, Answered}
+use Rattle.granules.specs.Step.{rangeLimit}
+use Rattle.claims.specs.Pieces.{refuses, differing}
+
+-- a range call found s: with R0 = 0 it did at least one granule, at most 64, and R1 is the number of map words that it changed; else it left all as it was
+pub record TellsChanges (s : State) (r : Answered) : Type 0 where
+  pub done :
+      refuses (numbersOf (r .answer)) ≡ false
+      → (1 ≤ numbersOf (r .answer) .v1) × (numbersOf (r .answer) .v1 ≤ rangeLimit) × (numbersOf (r .answer) .v1 ≡ differing (s .map) (r .left .map))
+  pub none : refuses (numbersOf (r .answer)) ≡ true → r .left ≡ s
