@@ -11,7 +11,7 @@ use lib.ListN.{length, getD, length-set}
 use Rattle.runs.specs.Run.{Step, took, gated, gate, run}
 use Rattle.words.specs.Granule.{granuleSize, granuleOf, isBase}
 use Rattle.words.proofs.Booleans.{both-true}
-use Rattle.tables.specs.Length.{lengthsHold}
+use Rattle.tables.specs.Length.{widthOf, lengthsHold}
 use Rattle.tables.specs.Row.{wordIndex}
 use Rattle.tables.specs.Pair.{pairAt}
 use Rattle.records.specs.Monitor.{guestOf}
@@ -19,20 +19,10 @@ use Rattle.records.specs.Answer.{verdictWith}
 use Rattle.records.specs.State.{State}
 use Rattle.records.specs.Tests.{Tests, firstRefusal}
 use Rattle.records.specs.declared.answer.Numbers.{Numbers}
-use Rattle.claims.specs.SingleSteps.{RangeCall, share, unshare, rangeGuardMap, rangeGuardUnmap, errorOf, registersRight, enrolmentRight, frameIn, wordMade, withSharedByte, framesMade, changedAt, At, at, singleStep}
-use Rattle.claims.proofs.StepAgrees.{granuleTests, granuleStep}
+use Rattle.claims.specs.SingleSteps.{RangeCall, share, unshare, rangeGuardMap, rangeGuardUnmap, errorOf, registersRight, enrolmentRight, callTests, granuleTests, frameIn, wordMade, withSharedByte, framesMade, changedAt, At, at, singleStep}
+use Rattle.claims.proofs.StepAgrees.{granuleRefusal, granuleStep}
 
--- the tests before any granule, of one step
-abbrev pub callTests : RangeCall → ℕ → ℕ → ℕ → State → Tests Numbers
-callTests c v r3 b s =
-    let guest = guestOf (s .monitor) v in
-    (lengthsHold (length (s .frames)) (length (s .map)), verdictWith 1 0)
-    ∷ (ltb v 8 && guest .live, verdictWith 2 0)
-    ∷ (guest .run, verdictWith 3 0)
-    ∷ (registersRight c b r3, errorOf c)
-    ∷ (enrolmentRight c guest, errorOf c)
-    ∷ []
-
+-- the refusal before any granule
 abbrev pub callRefusal : RangeCall → ℕ → ℕ → At → Option Numbers
 callRefusal c v r3 (at b s) = firstRefusal (callTests c v r3 b s)
 
@@ -48,7 +38,7 @@ gated-append (x ∷ xs) ys o = on (gated-append xs ys o) (x .0)
 -- the single step is the granule's step behind the tests before any granule
 pub step-gated : (c : RangeCall) (v r3 : ℕ) (p : At) → singleStep c v r3 p ≡ gate (callRefusal c v r3) (granuleStep c v) p
 unfolding singleStep
-step-gated c v r3 (at b s) = gated-append (callTests c v r3 b s) (granuleTests c v b s) (took (at (b + granuleSize) (changedAt c v b s)))
+step-gated c v r3 (at b s) = gated-append (callTests c v r3 b s) (granuleTests c (ltb (granuleOf b) (widthOf (length (s .map)))) (pairAt (s .frames) (s .map) v (granuleOf b))) (took (at (b + granuleSize) (changedAt c v b s)))
 
 pub steps-gated : (c : RangeCall) (v r3 n : ℕ) (p : At) → run (singleStep c v r3) n p ≡ run (gate (callRefusal c v r3) (granuleStep c v)) n p
 steps-gated c v r3 n p = ap (λ (f : At → Step At Numbers). run f n p) (fun-ext (step-gated c v r3))
@@ -110,4 +100,4 @@ gated-took (some n) x t e = (cc, cc)
 pub stays : (c : RangeCall) (v r3 : ℕ) (p t : At) → callRefusal c v r3 p ≡ none → granuleStep c v p ≡ took t → callRefusal c v r3 t ≡ none
 stays c v r3 (at b s) t h e =
     let x = at (b + granuleSize) (changedAt c v b s) in
-    rw (← (gated-took (firstRefusal (granuleTests c v b s)) x t e .1)) (same-tests c v r3 b s ∙ h)
+    rw (← (gated-took (granuleRefusal c v (at b s)) x t e .1)) (same-tests c v r3 b s ∙ h)

@@ -26,11 +26,10 @@ use Rattle.tables.proofs.RowLaws.{row-inside}
 use Rattle.tables.proofs.Found.{mapWordBy, granule-says}
 use Rattle.records.specs.Answer.{verdictWith}
 use Rattle.records.specs.State.{State}
-use Rattle.records.specs.Tests.{firstRefusal}
 use Rattle.records.specs.declared.answer.Numbers.{Numbers}
 use Rattle.claims.specs.SingleSteps.{RangeCall, share, unshare, rangeGuardMap, rangeGuardUnmap, errorOf, undamaged, kindRight, frameIn, wordMade, changedAt, At, at, singleStep}
 use Rattle.claims.specs.Pieces.{differing, CountsChanges}
-use Rattle.claims.proofs.StepAgrees.{granuleTests, granuleStep, pair-inside}
+use Rattle.claims.proofs.StepAgrees.{granuleRefusal, granuleStep, pair-inside}
 use Rattle.claims.proofs.BeforeGranules.{callRefusal, step-gated, through, Passed, call-passed, gated-took}
 
 -- the word made differs from the word of the kind that the call needs
@@ -83,7 +82,7 @@ single-took c v r3 b s t e =
     let g = granuleOf b in
     let k = pairAt (s .frames) (s .map) v g in
     let h = gated-passed (callRefusal c v r3 (at b s)) (granuleStep c v (at b s)) t (sym (step-gated c v r3 (at b s)) ∙ e) in
-    let u = gated-took (firstRefusal (granuleTests c v b s)) (at (b + granuleSize) (changedAt c v b s)) t (h .1) in
+    let u = gated-took (granuleRefusal c v (at b s)) (at (b + granuleSize) (changedAt c v b s)) t (h .1) in
     let q₃ = cond (kindRight c k) none (some (errorOf c)) in
     let q₂ = cond (undamaged k) q₃ (some (verdictWith 6 0)) in
     let h₁ = through (ltb g (widthOf (length (s .map)))) q₂ (errorOf c) (u .0) in

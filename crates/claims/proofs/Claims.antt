@@ -1,11 +1,13 @@
 -- What the customer asks for, each with the words that ask for it. The definitions are in specs/; all else in proofs/ only helps to prove these.
 -- No theorem assumes anything of the state: lengths, tables and records may be sound or damaged.
 use mathlib.Core.Path.{_≡_, refl}
+use mathlib.Core.Logic.{_≢_}
 use mathlib.Core.List.{List, map}
 use Prim.Native.Nat.{ℕ, _%_, _<_, _^_}
-use Rattle.runs.specs.Run.{sum}
+use native.Mathlib.Omega.{arith}
+use Rattle.runs.specs.Run.{outOfFuel, sum, stopOf}
 use Rattle.runs.specs.Made.{callsMade, Every}
-use Rattle.runs.proofs.Pieces.{pieces-run}
+use Rattle.runs.proofs.Pieces.{pieces-run, pieces-fuelled}
 use Rattle.words.specs.MapWord.{mapBits, mapWordOf}
 use Rattle.words.specs.FrameWord.{frameBits, frameWordOf}
 use Rattle.tables.specs.Length.{framesHold, mapHolds}
@@ -29,7 +31,6 @@ use Rattle.claims.proofs.Changes.{single-steps-count}
 use Rattle.claims.proofs.Addresses.{calls-fit}
 use Rattle.claims.proofs.R1Laws.{tells-changes}
 use Rattle.claims.proofs.FootprintLaws.{hypercall-within}
-use native.Mathlib.Omega.{arith}
 
 -- A range call of slot v: R0 has the number of one of the four calls in its low half, and anything above.
 module _ (c : RangeCall) (r0 : ℕ) (number : r0 % 2 ^ 32 ≡ numberOf c) (v b r3 : ℕ) (s : State) where
@@ -41,6 +42,10 @@ module _ (c : RangeCall) (r0 : ℕ) (number : r0 % 2 ^ 32 ≡ numberOf c) (v b r
   pieces-are-single-steps ms =
       let same = pieces-run (singleStep c v r3) rangeLimit (omega arith) (callAt r0 v r3) (λ m p h. call-agrees c r0 number v r3 m p h) ms (at b s) in
       (same, rw same (single-steps-count c v r3 s (sum ms) b))
+
+  -- carrying on comes to an end: it is complete or refused
+  pub carrying-on-ends : (ms : List ℕ) → stopOf (carriedOn r0 v r3 ms (at b s)) ≢ outOfFuel
+  carrying-on-ends ms = pieces-fuelled (singleStep c v r3) rangeLimit (omega arith) (callAt r0 v r3) (λ m p h. call-agrees c r0 number v r3 m p h) ms (at b s)
 
   -- and each address that is carried on fits a register
   pub carried-addresses-fit : (ms : List ℕ) → b < 2 ^ 64 → Every AddressFits (callsMade (callAt r0 v r3) ms (at b s))

@@ -1,7 +1,8 @@
 -- The single step at an address, past the tests before any granule, is the step of the work on granules.
 use mathlib.Core.Path.{_≡_, refl, sym, ap, _∙_}
 use mathlib.Core.Bool.{Bool, true, false, cond}
-use mathlib.Core.List.{List, [], _∷_}
+use mathlib.Core.List.{List}
+use mathlib.Core.Option.{Option}
 use Prim.Native.Nat.{ℕ, suc, _+_, _*_, _<_, _^_}
 use native.Mathlib.Omega.{arith}
 use borrow.Author.Tests.{lt-ltb}
@@ -23,14 +24,14 @@ use Rattle.tables.specs.declared.pairs.GranuleState.{GranuleState}
 use Rattle.tables.specs.declared.pairs.GranuleState.the-variants as granule-state
 use Rattle.tables.proofs.Found.{granule-says, granule-names}
 use Rattle.records.specs.Answer.{verdictWith}
-use Rattle.records.specs.State.{State, state}
-use Rattle.records.specs.Tests.{Tests, firstRefusal}
+use Rattle.records.specs.State.{state}
+use Rattle.records.specs.Tests.{firstRefusal}
 use Rattle.records.specs.declared.monitor.Monitor.{Monitor}
 use Rattle.records.specs.declared.answer.Numbers.{Numbers}
 use Rattle.granules.specs.Kind.{sharing, unsharing, guarding, unguarding, changeOf}
 use Rattle.granules.specs.Step.{Place, place, Refusal, isDamaged, notDone, written, stepFrom, tableStep}
 use Rattle.granules.specs.declared.kinds.Operation.{Operation}
-use Rattle.claims.specs.SingleSteps.{RangeCall, share, unshare, rangeGuardMap, rangeGuardUnmap, errorOf, undamaged, kindRight, frameIn, wordMade, withSharedByte, framesMade, changedAt, At, at}
+use Rattle.claims.specs.SingleSteps.{RangeCall, share, unshare, rangeGuardMap, rangeGuardUnmap, errorOf, granuleTests, frameIn, wordMade, withSharedByte, framesMade, changedAt, At, at}
 
 abbrev pub operationOf : RangeCall → Operation
 operationOf share = sharing
@@ -38,14 +39,13 @@ operationOf unshare = unsharing
 operationOf rangeGuardMap = guarding
 operationOf rangeGuardUnmap = unguarding
 
--- the tests of the granule, and the step behind them alone
-abbrev pub granuleTests : RangeCall → ℕ → ℕ → State → Tests Numbers
-granuleTests c v b s =
-    let granule = pairAt (s .frames) (s .map) v (granuleOf b) in
-    (ltb (granuleOf b) (widthOf (length (s .map))), errorOf c) ∷ (undamaged granule, verdictWith 6 0) ∷ (kindRight c granule, errorOf c) ∷ []
+-- the step behind the tests of the granule alone
+abbrev pub granuleRefusal : RangeCall → ℕ → At → Option Numbers
+granuleRefusal c v (at b s) =
+    firstRefusal (granuleTests c (ltb (granuleOf b) (widthOf (length (s .map)))) (pairAt (s .frames) (s .map) v (granuleOf b)))
 
 abbrev pub granuleStep : RangeCall → ℕ → At → Step At Numbers
-granuleStep c v (at b s) = gated (firstRefusal (granuleTests c v b s)) (took (at (b + granuleSize) (changedAt c v b s)))
+granuleStep c v (at b s) = gated (granuleRefusal c v (at b s)) (took (at (b + granuleSize) (changedAt c v b s)))
 
 -- a frame word with its sharing byte made anew is the word built for that sharing
 rebuilt : (v g w : ℕ) (s t : Bool) → frameWordOf w ≡ frame-word.Owned v s g → withSharedByte (sharingByte t) w ≡ frameBits (frame-word.Owned v t g)
@@ -68,7 +68,7 @@ numbersBy c notDone = errorOf c
 -- what is made of a granule in the state k, whose map word is the i-th
 abbrev made : RangeCall → Monitor → List ℕ → List ℕ → ℕ → ℕ → GranuleState → Step At Numbers
 made c m frames map i b k =
-    gated (firstRefusal ((undamaged k, verdictWith 6 0) ∷ (kindRight c k, errorOf c) ∷ []))
+    gated (firstRefusal (granuleTests c true k))
     (took (at (b + granuleSize) (state (framesMade c (frameIn k) frames) (set map i (wordMade c (frameIn k))) m)))
 
 module _ (v : ℕ) (m : Monitor) (map frames : List ℕ) (g i : ℕ) where
@@ -114,7 +114,7 @@ module _ (c : RangeCall) (v : ℕ) (hv : v < 8) (m : Monitor) where
   like (place map frames g) = rw (granule-address g) (on (ltb g (widthOf (length map))) refl)
     where
       on : (t : Bool) → ltb g (widthOf (length map)) ≡ t
-          → gated (firstRefusal ((t, errorOf c) ∷ (undamaged (pairAt frames map v g), verdictWith 6 0) ∷ (kindRight c (pairAt frames map v g), errorOf c) ∷ []))
+          → gated (firstRefusal (granuleTests c t (pairAt frames map v g)))
           (took
           (at (addressOf g + granuleSize)
           (state (framesMade c (frameIn (pairAt frames map v g)) frames) (set map (wordIndex (length map) v g) (wordMade c (frameIn (pairAt frames map v g)))) m)))

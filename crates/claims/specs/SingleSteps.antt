@@ -1,6 +1,6 @@
 -- Document 01, "Ranges for demand 3": "The granules taken singly are a definition, made from these rules and from no answer of the program."
 use mathlib.Core.Bool.{Bool, true, false, _&&_, not}
-use mathlib.Core.List.{List, [], _∷_}
+use mathlib.Core.List.{List, [], _∷_, _++_}
 use Prim.Native.Nat.{ℕ, _+_, _*_, _-_, _/_, _%_, _^_}
 use lib.Dec.{eqb, ltb}
 use lib.ListN.{length, getD, set}
@@ -75,20 +75,25 @@ kindRight unshare granule-state.Guarded = false
 kindRight rangeGuardMap granule-state.Guarded = false
 kindRight rangeGuardUnmap granule-state.Guarded = true
 
--- the tests of one step at the address b, "in this order"
-abbrev pub stepTests : RangeCall → ℕ → ℕ → ℕ → State → Tests Numbers
-stepTests c v r3 b s =
+-- the tests of one step at the address b, "in this order": first "verdicts 1 to 3; registers ..; enrolment"
+abbrev pub callTests : RangeCall → ℕ → ℕ → ℕ → State → Tests Numbers
+callTests c v r3 b s =
     let guest = guestOf (s .monitor) v in
-    let granule = pairAt (s .frames) (s .map) v (granuleOf b) in
     (lengthsHold (length (s .frames)) (length (s .map)), verdictWith 1 0)
     ∷ (ltb v 8 && guest .live, verdictWith 2 0)
     ∷ (guest .run, verdictWith 3 0)
     ∷ (registersRight c b r3, errorOf c)
     ∷ (enrolmentRight c guest, errorOf c)
-    ∷ (ltb (granuleOf b) (widthOf (length (s .map))), errorOf c)
-    ∷ (undamaged granule, verdictWith 6 0)
-    ∷ (kindRight c granule, errorOf c)
     ∷ []
+
+-- then "the granule below W; verdict 6 for this granule with its frame; the kind that the call needs", of a granule in the state k
+abbrev pub granuleTests : RangeCall → Bool → GranuleState → Tests Numbers
+granuleTests c below k = (below, errorOf c) ∷ (undamaged k, verdictWith 6 0) ∷ (kindRight c k, errorOf c) ∷ []
+
+abbrev pub stepTests : RangeCall → ℕ → ℕ → ℕ → State → Tests Numbers
+stepTests c v r3 b s =
+    callTests c v r3 b s
+    ++ granuleTests c (ltb (granuleOf b) (widthOf (length (s .map)))) (pairAt (s .frames) (s .map) v (granuleOf b))
 
 -- f, where a granule has a frame
 abbrev pub frameIn : GranuleState → ℕ

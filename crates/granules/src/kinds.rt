@@ -35,7 +35,7 @@ pub enum Change {
 
 impl Kind {
     // Whether a granule is of this kind. A damaged one is of none.
-    pub fn is_of(self, state: GranuleState) -> bool
+    fn is_of(self, state: GranuleState) -> bool
         ensures { λ r. ⌜ r ≡ isOf self state ⌝ }
     {
         match state {
@@ -62,7 +62,7 @@ impl Kind {
     }
 
     // What is written for a granule without a frame that becomes of this kind.
-    pub fn bare(self) -> Change
+    fn bare(self) -> Change
         ensures { λ r. ⌜ r ≡ bare self ⌝ }
     {
         match self {
@@ -74,7 +74,7 @@ impl Kind {
     }
 
     // The map word of a granule with this frame that becomes of this kind. Its caller tested the frame as an index.
-    pub fn map_word(self, frame: usize) -> u32
+    pub(crate) fn map_word(self, frame: usize) -> u32
         requires { ⌜ frame < 2 ^ 16 ⌝ }
         ensures { λ r. ⌜ r ≡ mapBits (wordWith self frame) ⌝ }
     {
@@ -87,7 +87,7 @@ impl Kind {
     }
 
     // The word of a frame whose granule becomes of this kind. Its caller tested slot and granule as the frame's owner.
-    pub fn frame_word(self, slot: usize, granule: usize) -> u32
+    pub(crate) fn frame_word(self, slot: usize, granule: usize) -> u32
         requires { ⌜ (slot < 8) × (granule < 2 ^ 16) ⌝ }
         ensures { λ r. ⌜ r ≡ frameBits (frameThen self slot granule) ⌝ }
     {

@@ -14,7 +14,7 @@ pub enum Admission {
 }
 
 // The tests of every call of a guest: the tables' lengths, a live guest, a guest that was run.
-pub fn caller_admission(frame_words: usize, map_words: usize, guest: Guest) -> Admission
+pub(crate) fn caller_admission(frame_words: usize, map_words: usize, guest: Guest) -> Admission
     ensures { λ r. ⌜ refusalBy r ≡ firstRefusal (callerTests «frame_words» «map_words» guest) ⌝ }
 {
     if lengths_hold(frame_words, map_words) {
@@ -33,7 +33,7 @@ pub fn caller_admission(frame_words: usize, map_words: usize, guest: Guest) -> A
 }
 
 // The tests of a hypercall's row: registers, then what the record must say.
-pub fn row_admission(row: Row, registers: Registers, guest: Guest) -> Admission
+pub(crate) fn row_admission(row: Row, registers: Registers, guest: Guest) -> Admission
     ensures { λ r. ⌜ refusalBy r ≡ firstRefusal (rowTests row registers guest) ⌝ }
 {
     let error = row.error;

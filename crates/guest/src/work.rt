@@ -14,7 +14,7 @@ use tables::row_bounds;
 use words::Granule;
 
 // Granules of a slot from the one at this base upward. The slot's row is lent on as a part of the map table that begins in its middle.
-pub fn change_row(
+pub(crate) fn change_row(
     frames: &mut [u32],
     map: &mut [u32],
     slot: u64,
@@ -40,7 +40,7 @@ pub fn change_row(
 }
 
 // The answer of a call that worked on granules: 0 if one was done at least, and their number in R1 where the call tells it.
-pub fn answer_of(progress: Progress, tells: bool, error: Error) -> Answer
+pub(crate) fn answer_of(progress: Progress, tells: bool, error: Error) -> Answer
     ensures { λ r. ⌜ r ≡ doneAnswer error tells (progress .done) (stopBy (progress .outcome)) ⌝ }
 {
     let done = progress.done;

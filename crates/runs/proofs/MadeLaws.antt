@@ -1,14 +1,23 @@
--- What holds of the first state, and is kept by every call that does not refuse, holds wherever a call is made.
-use mathlib.Core.Path.{_≡_, refl}
+-- What holds of the first state, and is kept by every call that does not refuse, holds wherever a call is made. And no call is made elsewhere:
+-- the pieces hang on what calls do in these states alone.
+use mathlib.Core.Path.{_≡_, refl, ap}
 use mathlib.Core.List.{List, [], _∷_, _++_}
 use Prim.Native.Nat.{ℕ, zero, suc, _-_, _≤_}
 use native.Mathlib.Omega.{arith}
-use Rattle.runs.specs.Run.{complete, refused, outOfFuel, End, ended, after, goOn, carryOn}
+use Rattle.runs.specs.Run.{complete, refused, outOfFuel, End, ended, after, goOn, carryOn, andThen, pieces}
 use Rattle.runs.specs.Made.{further, callsCarried, nextPiece, callsMade, Every}
 
 every-append : {S : Type 0} (P : S → Type 0) (xs ys : List S) → Every P xs → Every P ys → Every P (xs ++ ys)
 every-append P [] ys h k = k
 every-append P (x ∷ xs) ys h k = (h .0, every-append P xs ys (h .1) k)
+
+every-left : {S : Type 0} (P : S → Type 0) (xs ys : List S) → Every P (xs ++ ys) → Every P xs
+every-left P [] ys h = tt
+every-left P (x ∷ xs) ys h = (h .0, every-left P xs ys (h .1))
+
+every-right : {S : Type 0} (P : S → Type 0) (xs ys : List S) → Every P (xs ++ ys) → Every P ys
+every-right P [] ys h = h
+every-right P (x ∷ xs) ys h = every-right P xs ys (h .1)
 
 module _ {S R : Type 0} (P : S → Type 0) where
   -- P of the state that an end leaves, if it goes on from there
@@ -56,3 +65,34 @@ module _ {S R : Type 0} (P : S → Type 0) where
         on ih (ended k t complete) h = ih t h
         on ih (ended k t (refused r)) h = tt
         on ih (ended k t outOfFuel) h = tt
+
+module _ {S R : Type 0} (call other : ℕ → S → End S R) where
+  -- the two calls do the same in a state
+  abbrev pub SameIn : S → Type 0
+  SameIn s = (m : ℕ) → other m s ≡ call m s
+
+  carried-same : (f m : ℕ) (s : S) → Every SameIn (callsCarried call f m s) → carryOn other f m s ≡ carryOn call f m s
+  carried-same zero zero s h = refl
+  carried-same zero (suc m) s h = refl
+  carried-same (suc f) zero s h = refl
+  carried-same (suc f) (suc m) s h = rw (h .0 (suc m)) (on (λ k t q. carried-same f k t q) (call (suc m) s) (h .1))
+    where
+      on : ((k : ℕ) (t : S) → Every SameIn (callsCarried call f k t) → carryOn other f k t ≡ carryOn call f k t) → (e : End S R)
+          → Every SameIn (further (λ k t. callsCarried call f k t) (suc m) e)
+          → goOn (λ k t. carryOn other f k t) (suc m) e ≡ goOn (λ k t. carryOn call f k t) (suc m) e
+      on ih (ended k t complete) q = ap (after k) (ih (suc m - k) t q)
+      on ih (ended k t (refused r)) q = refl
+      on ih (ended k t outOfFuel) q = refl
+
+  pub made-same : (ms : List ℕ) (s : S) → Every SameIn (callsMade call ms s) → pieces other ms s ≡ pieces call ms s
+  made-same [] s h = refl
+  made-same (m ∷ ms) s h =
+      let next = nextPiece (λ t. callsMade call ms t) (carryOn call m m s) in
+      rw (carried-same m m s (every-left SameIn (callsCarried call m m s) next h))
+      (on (λ t q. made-same ms t q) (carryOn call m m s) (every-right SameIn (callsCarried call m m s) next h))
+    where
+      on : ((t : S) → Every SameIn (callsMade call ms t) → pieces other ms t ≡ pieces call ms t) → (e : End S R)
+          → Every SameIn (nextPiece (λ t. callsMade call ms t) e) → andThen e (λ t. pieces other ms t) ≡ andThen e (λ t. pieces call ms t)
+      on ih (ended k t complete) q = ap (after k) (ih t q)
+      on ih (ended k t (refused r)) q = refl
+      on ih (ended k t outOfFuel) q = refl
