@@ -19,6 +19,7 @@ use Rattle.records.specs.Answer.{verdictWith}
 use Rattle.records.specs.State.{State}
 use Rattle.records.specs.Tests.{Tests, firstRefusal}
 use Rattle.records.specs.declared.answer.Numbers.{Numbers}
+use Rattle.records.proofs.TestLaws.{through}
 use Rattle.claims.specs.SingleSteps.{RangeCall, share, unshare, rangeGuardMap, rangeGuardUnmap, errorOf, registersRight, enrolmentRight, callTests, granuleTests, frameIn, wordMade, withSharedByte, framesMade, changedAt, At, at, singleStep}
 use Rattle.claims.proofs.StepAgrees.{granuleRefusal, granuleStep}
 
@@ -44,10 +45,6 @@ pub steps-gated : (c : RangeCall) (v r3 n : ℕ) (p : At) → run (singleStep c 
 steps-gated c v r3 n p = ap (λ (f : At → Step At Numbers). run f n p) (fun-ext (step-gated c v r3))
 
 -- what passed tests say
-pub through : {A : Type 0} (a : Bool) (q : Option A) (r : A) → cond a q (some r) ≡ none → (a ≡ true) × (q ≡ none)
-through true q r h = (refl, h)
-through false q r h = (cc, cc)
-
 base-right : (c : RangeCall) (b r3 : ℕ) → registersRight c b r3 ≡ true → isBase b ≡ true
 base-right share b r3 h = both-true (isBase b) (eqb r3 0) h .0
 base-right unshare b r3 h = both-true (isBase b) (eqb r3 0) h .0
@@ -93,11 +90,13 @@ same-tests c v r3 b s =
     let f = frameIn (pairAt (s .frames) (s .map) v (granuleOf b)) in
     rw (frames-length c f (s .frames), length-set (s .map) (wordIndex (length (s .map)) v (granuleOf b)) (wordMade c f), next-base c b r3)
 
-pub gated-took : (q : Option Numbers) (x t : At) → gated q (took x) ≡ took t → (q ≡ none) × (x ≡ t)
-gated-took none x t e = (refl, cc)
-gated-took (some n) x t e = (cc, cc)
+pub gated-passed : (q : Option Numbers) (o : Step At Numbers) (t : At) → gated q o ≡ took t → (q ≡ none) × (o ≡ took t)
+gated-passed none o t e = (refl, e)
+gated-passed (some r) o t e = (cc, cc)
 
 pub stays : (c : RangeCall) (v r3 : ℕ) (p t : At) → callRefusal c v r3 p ≡ none → granuleStep c v p ≡ took t → callRefusal c v r3 t ≡ none
 stays c v r3 (at b s) t h e =
     let x = at (b + granuleSize) (changedAt c v b s) in
-    rw (← (gated-took (granuleRefusal c v (at b s)) x t e .1)) (same-tests c v r3 b s ∙ h)
+    let to = gated-passed (granuleRefusal c v (at b s)) (took x) t e .1 in
+    let same : x ≡ t = cc in
+    rw (← same) (same-tests c v r3 b s ∙ h)

@@ -13,6 +13,7 @@ use Rattle.runs.proofs.Gate.{passed}
 use Rattle.runs.proofs.Kept.{Holds, kept}
 use Rattle.runs.proofs.Alike.{mapEnd}
 use Rattle.words.specs.Granule.{granuleSize, granuleOf, isBase, addressOf}
+use Rattle.words.proofs.Booleans.{and-true, and-false}
 use Rattle.words.proofs.GranuleLaws.{address-granule}
 use Rattle.tables.specs.Length.{lengthsHold}
 use Rattle.records.specs.Monitor.{guestOf}
@@ -83,14 +84,6 @@ tests-read c true true false x₄ x₅ b s done = refl
 tests-read c true true true false x₅ b s done = error-read c b s
 tests-read c true true true true false b s done = error-read c b s
 tests-read c true true true true true b s done = refl
-
-and-true : (a : Bool) → a && true ≡ a
-and-true true = refl
-and-true false = refl
-
-pub and-false : (a : Bool) → a && false ≡ false
-and-false true = refl
-and-false false = refl
 
 -- the row of the table, the action and the error of a range call with a count of at least 1
 row-tests : (c : RangeCall) (r0 b m r3 : ℕ) (g : Guest) → 1 ≤ m

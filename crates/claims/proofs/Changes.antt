@@ -3,7 +3,7 @@ use mathlib.Core.Path.{_≡_, refl, sym, ap, _∙_}
 use mathlib.Core.Logic.{_≢_}
 use mathlib.Core.Bool.{Bool, true, false, cond}
 use mathlib.Core.List.{List, [], _∷_}
-use mathlib.Core.Option.{Option, none, some}
+use mathlib.Core.Option.{none, some}
 use Prim.Native.Nat.{ℕ, zero, suc, _+_, _<_, _≤_}
 use native.Mathlib.Nat.{zero-add}
 use native.Mathlib.Omega.{arith}
@@ -11,7 +11,7 @@ use borrow.Author.Tests.{eq-eqb, ne-eqb, ltb-true}
 use lib.Dec.{eqb, ltb}
 use lib.ListN.{length, getD, set, length-set}
 use lib.Seq.{getD-set-other}
-use Rattle.runs.specs.Run.{Step, took, End, ended, gated, run}
+use Rattle.runs.specs.Run.{took, End, ended, run}
 use Rattle.runs.proofs.Kept.{Holds, kept}
 use Rattle.words.specs.Granule.{granuleSize, granuleOf}
 use Rattle.words.specs.MapWord.{mapBits, mapWordOf}
@@ -27,10 +27,11 @@ use Rattle.tables.proofs.Found.{mapWordBy, granule-says}
 use Rattle.records.specs.Answer.{verdictWith}
 use Rattle.records.specs.State.{State}
 use Rattle.records.specs.declared.answer.Numbers.{Numbers}
+use Rattle.records.proofs.TestLaws.{through}
 use Rattle.claims.specs.SingleSteps.{RangeCall, share, unshare, rangeGuardMap, rangeGuardUnmap, errorOf, undamaged, kindRight, frameIn, wordMade, changedAt, At, at, singleStep}
 use Rattle.claims.specs.Pieces.{differing, CountsChanges}
 use Rattle.claims.proofs.StepAgrees.{granuleRefusal, granuleStep, pair-inside}
-use Rattle.claims.proofs.BeforeGranules.{callRefusal, step-gated, through, Passed, call-passed, gated-took}
+use Rattle.claims.proofs.BeforeGranules.{callRefusal, step-gated, Passed, call-passed, gated-passed}
 
 -- the word made differs from the word of the kind that the call needs
 other-word : (c : RangeCall) (k : GranuleState) → kindRight c k ≡ true → (w : ℕ) → mapBits (mapWordBy k) ≡ w → w ≢ wordMade c (frameIn k)
@@ -73,16 +74,13 @@ pub record SingleTook (c : RangeCall) (v b : ℕ) (s : State) (t : At) : Type 0 
   pub word : wordAt (s .map) v (granuleOf b) ≢ wordMade c (frameIn (pairAt (s .frames) (s .map) v (granuleOf b)))
   pub to : at (b + granuleSize) (changedAt c v b s) ≡ t
 
-gated-passed : (q : Option Numbers) (o : Step At Numbers) (t : At) → gated q o ≡ took t → (q ≡ none) × (o ≡ took t)
-gated-passed none o t e = (refl, e)
-gated-passed (some r) o t e = (cc, cc)
-
 pub single-took : (c : RangeCall) (v r3 b : ℕ) (s : State) (t : At) → singleStep c v r3 (at b s) ≡ took t → SingleTook c v b s t
 single-took c v r3 b s t e =
     let g = granuleOf b in
     let k = pairAt (s .frames) (s .map) v g in
     let h = gated-passed (callRefusal c v r3 (at b s)) (granuleStep c v (at b s)) t (sym (step-gated c v r3 (at b s)) ∙ e) in
-    let u = gated-took (granuleRefusal c v (at b s)) (at (b + granuleSize) (changedAt c v b s)) t (h .1) in
+    let u = gated-passed (granuleRefusal c v (at b s)) (took (at (b + granuleSize) (changedAt c v b s))) t (h .1) in
+    let to = u .1 in
     let q₃ = cond (kindRight c k) none (some (errorOf c)) in
     let q₂ = cond (undamaged k) q₃ (some (verdictWith 6 0)) in
     let h₁ = through (ltb g (widthOf (length (s .map)))) q₂ (errorOf c) (u .0) in
@@ -95,7 +93,7 @@ single-took c v r3 b s t e =
       word =
           other-word c k (h₃ .0) (wordAt (s .map) v g)
           (state-word (s .frames) v g (wordAt (s .map) v g) k (pair-inside (s .frames) (s .map) v g (passes .slot) (h₁ .0)) (undamaged-kind c k (h₃ .0)));
-      to = u .1;
+      to = cc;
     }
 
 differing-none : (l : List ℕ) → differing l l ≡ 0

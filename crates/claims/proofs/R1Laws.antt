@@ -8,6 +8,7 @@ use Rattle.runs.specs.Run.{Step, took, refuses as refusing, Stop, complete, ref
 use Rattle.runs.proofs.Runs.{run-at-most}
 use lib.ListN.{length}
 use Rattle.words.specs.Granule.{granuleSize, isBase}
+use Rattle.words.proofs.Booleans.{and-false}
 use Rattle.tables.specs.Length.{lengthsHold}
 use Rattle.records.specs.Answer.{numbersOf}
 use Rattle.records.specs.State.{State, Answered, answered}
@@ -28,7 +29,7 @@ use Rattle.guest.specs.Calls.{actOf, hypercallOf}
 use Rattle.claims.specs.SingleSteps.{RangeCall, share, unshare, rangeGuardMap, rangeGuardUnmap, numberOf, At, at, singleStep}
 use Rattle.claims.specs.Pieces.{registers, refuses, callAt, differing, CountsChanges}
 use Rattle.claims.specs.R1.{TellsChanges}
-use Rattle.claims.proofs.CallAgrees.{functionBy, number-asked, and-false, call-agrees}
+use Rattle.claims.proofs.CallAgrees.{functionBy, number-asked, call-agrees}
 use Rattle.claims.proofs.Changes.{single-steps-count}
 
 -- a run of one step or more did some, or was refused where it began

@@ -1,7 +1,7 @@
 -- A step that is taken at a granule writes that granule's map word, and of the frame words at most that of the frame which it names.
 use mathlib.Core.Path.{_≡_, refl}
 use mathlib.Core.Logic.{_≢_}
-use mathlib.Core.Bool.{Bool, true, false, cond}
+use mathlib.Core.Bool.{Bool}
 use mathlib.Core.List.{List}
 use Prim.Native.Nat.{ℕ, suc, _<_}
 use native.Mathlib.Omega.{arith}
@@ -9,7 +9,7 @@ use borrow.Author.Tests.{ltb-true}
 use lib.Dec.{ltb}
 use lib.ListN.{length, getD, set, length-set}
 use lib.Seq.{getD-set-other}
-use Rattle.runs.specs.Run.{Step, took, refuses}
+use Rattle.runs.specs.Run.{took}
 use Rattle.words.specs.MapWord.{mapBits, mapWordOf}
 use Rattle.words.specs.FrameWord.{frameBits}
 use Rattle.words.specs.declared.map_word.MapWord.the-variants.{Frame}
@@ -17,11 +17,12 @@ use Rattle.tables.specs.Length.{widthOf}
 use Rattle.tables.specs.Row.{wordIndex, wordAt}
 use Rattle.tables.specs.Pair.{granuleState}
 use Rattle.granules.specs.Kind.{wordWith, frameThen, changeOf}
-use Rattle.granules.specs.Step.{Place, place, Refusal, notDone, written, stepFrom, tableStep}
+use Rattle.granules.specs.Step.{Place, place, written, stepFrom, tableStep}
 use Rattle.granules.specs.declared.kinds.Operation.{Operation}
 use Rattle.granules.specs.declared.kinds.Change.{Change}
 use Rattle.granules.specs.declared.kinds.Change.the-variants.{Damaged, Refused, Bare, WithFrame}
 use Rattle.granules.proofs.ChangeLaws.{writable}
+use Rattle.granules.proofs.Lent.{taken}
 
 -- what a step at granule g of slot v leaves as it was
 pub record Took (v : ℕ) (map frames : List ℕ) (g : ℕ) (map′ frames′ : List ℕ) (g′ : ℕ) : Type 0 where
@@ -34,10 +35,6 @@ pub record Took (v : ℕ) (map frames : List ℕ) (g : ℕ) (map′ frames′ : 
 
 abbrev pub TookTo : ℕ → Place → Place → Type 0
 TookTo v (place map frames g) (place map′ frames′ g′) = Took v map frames g map′ frames′ g′
-
-below-width : (c : Bool) (o : Step Place Refusal) (t : Place) → cond c o (refuses notDone) ≡ took t → (c ≡ true) × (o ≡ took t)
-below-width true o t e = (refl, e)
-below-width false o t e = (cc, cc)
 
 module _ (o : Operation) (v : ℕ) (map frames : List ℕ) (g : ℕ) where
   -- the step's change, where it is written
@@ -81,5 +78,5 @@ module _ (o : Operation) (v : ℕ) (map frames : List ℕ) (g : ℕ) where
   step-took t e =
       let w = widthOf (length map) in
       let d = changeOf o (granuleState frames v g (mapWordOf (wordAt map v g))) in
-      let p = below-width (ltb g w) (written (o .makes) v (wordIndex (length map) v g) map frames g d) t e in
+      let p = taken (ltb g w) (written (o .makes) v (wordIndex (length map) v g) map frames g d) t e in
       change-took d refl (ltb-true g w (p .0)) t (p .1)

@@ -45,15 +45,16 @@ written-length m v i map frames g Refused t e = let z : _≡_ {A = ℕ} 0 1 = cc
 written-length m v i map frames g (Bare w) t e = sym (ap words-after e) ∙ length-set map i w
 written-length m v i map frames g (WithFrame f) t e = sym (ap words-after e) ∙ length-set map i (mapBits (wordWith m f))
 
-taken : (c : Bool) (o : Step Place Refusal) (t : Place) → cond c o (refuses notDone) ≡ took t → o ≡ took t
-taken true o t e = e
-taken false o t e = cc
+-- a step that is taken is below the width
+pub taken : (c : Bool) (o : Step Place Refusal) (t : Place) → cond c o (refuses notDone) ≡ took t → (c ≡ true) × (o ≡ took t)
+taken true o t e = (refl, e)
+taken false o t e = (cc, cc)
 
 pub step-length : (o : Operation) (v a w : ℕ) (s t : Place) → stepFrom o v a w s ≡ took t → length (rowAt t) ≡ length (rowAt s)
 unfolding stepFrom
 step-length o v a w (place map frames g) t e =
     let d = changeOf o (granuleState frames v g (mapWordOf (getD map (a + g) 0))) in
-    written-length (o .makes) v (a + g) map frames g d t (taken (ltb g w) (written (o .makes) v (a + g) map frames g d) t e)
+    written-length (o .makes) v (a + g) map frames g d t (taken (ltb g w) (written (o .makes) v (a + g) map frames g d) t e .1)
 
 module _ (o : Operation) (v w : ℕ) (pre post : List ℕ) (at : length pre ≡ v * w) (wide : widthOf (length pre + (w + length post)) ≡ w) where
   -- a place in the row, as a place in the table

@@ -1,8 +1,8 @@
 -- How a call of a guest comes out, by the tests that its code makes on the way.
 use mathlib.Core.Path.{_≡_, refl, sym, ap, _∙_}
-use mathlib.Core.Bool.{Bool, true, false, cond}
+use mathlib.Core.Bool.{Bool, cond}
 use mathlib.Core.List.{List}
-use mathlib.Core.Option.{Option, none, some}
+use mathlib.Core.Option.{none, some}
 use Prim.Native.Nat.{ℕ, zero, suc, _<_, _≤_}
 use native.Mathlib.Omega.{arith}
 use borrow.Author.Tests.{lt-ltb, le-ltb}
@@ -25,6 +25,7 @@ use Rattle.records.specs.declared.monitor.Monitor.{Monitor}
 use Rattle.records.specs.declared.answer.Answer.{Answer}
 use Rattle.records.specs.declared.answer.Answer.the-variants.{BadLength, NoGuest, NeverRun}
 use Rattle.records.proofs.MonitorLaws.{live-slot}
+use Rattle.records.proofs.TestLaws.{through}
 use Rattle.granules.specs.Step.{Refusal}
 use Rattle.functions.specs.Function.{askedBy}
 use Rattle.functions.specs.Table.{returned, rowOf as callRow, actionOf}
@@ -36,10 +37,6 @@ use Rattle.functions.specs.declared.rows.Row.{Row}
 use Rattle.functions.specs.declared.actions.Action.{Action}
 use Rattle.guest.specs.declared.admissions.Admission.{Admission}
 use Rattle.guest.specs.declared.admissions.Admission.the-variants as admission
-
-through : {A : Type 0} (c : Bool) (q : Option A) (a : A) → cond c q (some a) ≡ none → (c ≡ true) × (q ≡ none)
-through true q a h = (refl, h)
-through false q a h = (cc, cc)
 
 -- a caller that passed verdicts 1 to 3 is one of the eight slots
 pub caller-slot : (f n : ℕ) (m : Monitor) (v : ℕ) → firstRefusal (callerTests f n (guestOf m v)) ≡ none → v < 8

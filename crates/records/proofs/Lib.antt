@@ -1,1 +1,2 @@
 pub mod MonitorLaws
+pub mod TestLaws

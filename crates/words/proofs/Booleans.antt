@@ -1,4 +1,4 @@
--- What a test that passed says of its parts.
+-- Laws of tests: what one that passed says of its parts, and what a constant part does.
 use mathlib.Core.Path.{_≡_, refl}
 use mathlib.Core.Bool.{Bool, true, false, _&&_, Bool·beq}
 
@@ -19,3 +19,11 @@ beq-self false = refl
 pub false-unless : (a : Bool) → (a ≡ true → ⊥) → a ≡ false
 false-unless true h = absurd (h refl)
 false-unless false h = refl
+
+pub and-true : (a : Bool) → a && true ≡ a
+and-true true = refl
+and-true false = refl
+
+pub and-false : (a : Bool) → a && false ≡ false
+and-false true = refl
+and-false false = refl
