@@ -21,7 +21,7 @@ use Rattle.functions.specs.Function.{functionOf}
 use Rattle.functions.specs.Table.{rowOf, actionOf}
 use Rattle.functions.specs.declared.rows.Registers.{Registers}
 use Rattle.guest.specs.Calls.{actOf, hypercallOf, accessOf, abortOf}
-use Rattle.claims.specs.SingleSteps.{RangeCall, numberOf, at, singleStep, takenSingly}
+use Rattle.claims.specs.SingleSteps.{RangeCall, numberOf, at, singleStep, singleSteps}
 use Rattle.claims.specs.Pieces.{registers, callAt, carriedOn, CountsChanges, AddressFits}
 use Rattle.claims.specs.R1.{TellsChanges}
 use Rattle.claims.specs.Footprint.{Within}
@@ -38,7 +38,7 @@ module _ (c : RangeCall) (r0 : ℕ) (number : r0 % 2 ^ 32 ≡ numberOf c) (v b r
   -- tables, records, count, refusal. One theorem over every list, from any tables, sound or damaged." The count is the number of map words
   -- that differ from the start. (A piece of 0 sends no call, so it needs no exception.)
   pub pieces-are-single-steps : (ms : List ℕ)
-      → (carriedOn r0 v r3 ms (at b s) ≡ takenSingly c v r3 (sum ms) (at b s)) × CountsChanges s (carriedOn r0 v r3 ms (at b s))
+      → (carriedOn r0 v r3 ms (at b s) ≡ singleSteps c v r3 (sum ms) (at b s)) × CountsChanges s (carriedOn r0 v r3 ms (at b s))
   pieces-are-single-steps ms =
       let same = pieces-run (singleStep c v r3) rangeLimit (omega arith) (callAt r0 v r3) (λ m p h. call-agrees c r0 number v r3 m p h) ms (at b s) in
       (same, rw same (single-steps-count c v r3 s (sum ms) b))

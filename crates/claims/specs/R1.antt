@@ -8,7 +8,8 @@ use Rattle.records.specs.State.{State, Answered}
 use Rattle.granules.specs.Step.{rangeLimit}
 use Rattle.claims.specs.Pieces.{refuses, differing}
 
--- a range call found s: with R0 = 0 it did at least one granule, at most 64, and R1 is the number of map words that it changed; else it left all as it was
+-- A range call found s. With R0 = 0 it did at least one granule, at most 64, and R1 is the number of map words that it changed; with any
+-- other answer it left all as it was. So R0 = 0 exactly when at least one granule was done.
 pub record TellsChanges (s : State) (r : Answered) : Type 0 where
   pub done :
       refuses (numbersOf (r .answer)) ≡ false

@@ -135,5 +135,5 @@ unfoldable pub singleStep : RangeCall → ℕ → ℕ → At → Step At Numbers
 singleStep c v r3 (at b s) = gated (firstRefusal (stepTests c v r3 b s)) (took (at (b + granuleSize) (changedAt c v b s)))
 
 -- n granules of slot v taken singly: "At t = n it ends, not refused."
-abbrev pub takenSingly : RangeCall → ℕ → ℕ → ℕ → At → End At Numbers
-takenSingly c v r3 n p = run (singleStep c v r3) n p
+abbrev pub singleSteps : RangeCall → ℕ → ℕ → ℕ → At → End At Numbers
+singleSteps c v r3 n p = run (singleStep c v r3) n p
