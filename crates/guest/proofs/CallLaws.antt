@@ -19,7 +19,7 @@ use Rattle.tables.proofs.RowLaws.{in-row, off-row}
 use Rattle.tables.proofs.PairLaws.{granule-in-row}
 use Rattle.records.specs.Monitor.{guestOf}
 use Rattle.records.specs.State.{State, Answered, answered}
-use Rattle.records.specs.Tests.{firstRefusal}
+use Rattle.records.specs.Tests.{firstRefusal, refusalBy}
 use Rattle.records.specs.declared.guest.Guest.{Guest}
 use Rattle.records.specs.declared.monitor.Monitor.{Monitor}
 use Rattle.records.specs.declared.answer.Answer.{Answer}
@@ -29,14 +29,14 @@ use Rattle.records.proofs.TestLaws.{through}
 use Rattle.granules.specs.Step.{Refusal}
 use Rattle.functions.specs.Function.{askedBy}
 use Rattle.functions.specs.Table.{returned, rowOf as callRow, actionOf}
-use Rattle.guest.specs.Calls.{callerTests, rowTests, refusalBy, doneAnswer, actOf, hypercallOf, unbacked, accessAnswer, accessOf, abortOf}
+use Rattle.guest.specs.Calls.{callerTests, rowTests, doneAnswer, actOf, hypercallOf, unbacked, accessAnswer, accessOf, abortOf}
 use Rattle.functions.specs.declared.numbers.Function.{Function}
 use Rattle.functions.specs.declared.rows.Registers.{Registers}
 use Rattle.functions.specs.declared.rows.Error.{Error}
 use Rattle.functions.specs.declared.rows.Row.{Row}
 use Rattle.functions.specs.declared.actions.Action.{Action}
-use Rattle.guest.specs.declared.admissions.Admission.{Admission}
-use Rattle.guest.specs.declared.admissions.Admission.the-variants as admission
+use Rattle.records.specs.declared.admission.Admission.{Admission}
+use Rattle.records.specs.declared.admission.Admission.the-variants as admission
 
 -- a caller that passed verdicts 1 to 3 is one of the eight slots
 pub caller-slot : (f n : ℕ) (m : Monitor) (v : ℕ) → firstRefusal (callerTests f n (guestOf m v)) ≡ none → v < 8

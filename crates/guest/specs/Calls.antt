@@ -1,7 +1,6 @@
 -- Document 01, "Guest calls": hypercall and abort, with "Verdicts, in the order they are tested".
 use mathlib.Core.Bool.{Bool, cond}
 use mathlib.Core.List.{List, [], _∷_}
-use mathlib.Core.Option.{Option, none, some}
 use Prim.Native.Nat.{ℕ, zero, suc, min}
 use lib.Dec.{ltb}
 use lib.IntN.{pos}
@@ -27,8 +26,6 @@ use Rattle.functions.specs.declared.rows.Error.{Error}
 use Rattle.functions.specs.declared.rows.Row.{Row}
 use Rattle.functions.specs.declared.actions.Action.{Action}
 use Rattle.functions.specs.declared.actions.Action.the-variants as action
-use Rattle.guest.specs.declared.admissions.Admission.{Admission}
-use Rattle.guest.specs.declared.admissions.Admission.the-variants as admission
 
 -- verdicts 1 to 3, of tables of f and m words and the caller's record; a slot above 7 has the record of no guest
 abbrev pub callerTests : ℕ → ℕ → Guest → Tests Answer
@@ -37,11 +34,6 @@ callerTests f m g = (lengthsHold f m, BadLength) ∷ (g .live, NoGuest) ∷ (g .
 -- "Registers, then enrolment, are tested before any granule."
 abbrev pub rowTests : Row → Registers → Guest → Tests Answer
 rowTests w r g = (registersHold w r, errorAnswer (w .error)) ∷ (permits (w .condition) g, errorAnswer (w .error)) ∷ []
-
--- what the code's admission says
-abbrev pub refusalBy : Admission → Option Answer
-refusalBy admission.Passed = none
-refusalBy (admission.Refused a) = some a
 
 -- "If at least one was done it answers 0, and R1 is the number of granules changed by this call. If none was done, it answers IP or NS
 -- with R1 = 0, or verdict 6 if that granule is damaged."

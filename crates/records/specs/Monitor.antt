@@ -9,6 +9,14 @@ use Rattle.records.specs.declared.monitor.Monitor.{Monitor}
 abbrev pub zeroGuest : Guest
 zeroGuest = record { live = false; run = false; enrolled = false; std = 0; «std_hyp» = 0; «vendor_hyp» = 0 }
 
+-- "create sets every field anew": live, and "The supported limits, also the first values, are 0, 0 and 1."
+abbrev pub newGuest : Guest
+newGuest = record { live = true; run = false; enrolled = false; std = 0; «std_hyp» = 0; «vendor_hyp» = 1 }
+
+-- "Run: marks the guest as run"
+abbrev pub markRun : Guest → Guest
+markRun g = record { live = g .live; run = true; enrolled = g .enrolled; std = g .std; «std_hyp» = g .«std_hyp»; «vendor_hyp» = g .«vendor_hyp» }
+
 -- "enroll": the flag alone changes
 abbrev pub enroll : Guest → Guest
 enroll g = record { live = g .live; run = g .run; enrolled = true; std = g .std; «std_hyp» = g .«std_hyp»; «vendor_hyp» = g .«vendor_hyp» }

@@ -1,3 +1,4 @@
+pub mod LengthLaws
 pub mod RowLaws
 pub mod PairLaws
 pub mod Found

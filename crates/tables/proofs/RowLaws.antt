@@ -1,5 +1,5 @@
 -- A row lies within the table: seven rows before it and itself are at most eight.
-use mathlib.Core.Path.{_≡_, ap, _∙_}
+use mathlib.Core.Path.{_≡_, refl, ap, _∙_}
 use mathlib.Core.List.{List}
 use Prim.Native.Nat.{ℕ, _+_, _*_, _-_, _/_, _<_, _≤_}
 use native.Mathlib.Nat.{mul-le-mul-right}
@@ -9,7 +9,7 @@ use borrow.Author.Tests.{lt-ltb, le-ltb}
 use lib.ListN.{length, getD, drop, length-take, length-drop}
 use lib.Seq.{getD-take, getD-drop}
 use Rattle.tables.specs.Length.{widthOf}
-use Rattle.tables.specs.Row.{bounds, boundsOf, rowOf, wordAt}
+use Rattle.tables.specs.Row.{bounds, boundsOf, rowOf, wordIndex, wordAt}
 use Rattle.tables.specs.declared.rows.RowBounds.{RowBounds}
 
 pub row-inside : (n v : ℕ) → v < 8 → v * widthOf n + widthOf n ≤ n
@@ -47,6 +47,13 @@ module _ (map : List ℕ) (v : ℕ) where
 -- what the code finds of a row, where it has computed its bounds
 pub in-order : (map : List ℕ) (v : ℕ) (r : RowBounds) → r ≡ boundsOf (length map) v → (r .start ≤ r .end) × (r .end ≤ length map)
 in-order map v r e = rw e (bounds-ordered (length map) v)
+
+-- the index of a granule's word, from where its row starts
+pub index-inside : (map : List ℕ) (v g : ℕ) (r : RowBounds) → r ≡ boundsOf (length map) v → v < 8 → g < widthOf (length map)
+    → (r .start + g ≡ wordIndex (length map) v g) × (r .start + g < length map)
+index-inside map v g r e hv hg =
+    let start : r ≡ bounds (v * widthOf (length map)) (v * widthOf (length map) + widthOf (length map)) = e ∙ bounds-slot (length map) v hv in
+    rw start (refl, omega (arith, row-inside (length map) v hv))
 
 -- an index into a row is a granule of a slot, and the word there is that granule's
 pub record InRow (map : List ℕ) (v g w : ℕ) : Type 0 where

@@ -1,7 +1,7 @@
 -- Document 01, "Tables": "A word that names a partner (a map word its frame, a frame word its owner's granule) must be named back by it,
 -- with the same shared or private; else both are damaged, to a call that looks from that word to its partner. What any third word
 -- names doesn't count."
-use mathlib.Core.Bool.{Bool, cond, _&&_}
+use mathlib.Core.Bool.{Bool, true, false, cond, _&&_}
 use mathlib.Core.List.{List}
 use Prim.Native.Nat.{ℕ}
 use lib.Dec.{ltb}
@@ -49,3 +49,15 @@ frameState map f frame-word.Damaged = frame-state.Damaged
 -- the pair test of a frame with its owner's granule; "a frame not below F" is damaged
 unfoldable pub pairOf : List ℕ → List ℕ → ℕ → FrameState
 pairOf frames map f = cond (ltb f (length frames)) (frameState map f (frameWordOf (getD frames f 0))) frame-state.Damaged
+
+abbrev pub granuleUndamaged : GranuleState → Bool
+granuleUndamaged granule-state.Vacant = true
+granuleUndamaged (granule-state.Frame s f) = true
+granuleUndamaged granule-state.Guarded = true
+granuleUndamaged granule-state.Damaged = false
+
+abbrev pub frameUndamaged : FrameState → Bool
+frameUndamaged frame-state.Host = true
+frameUndamaged frame-state.Waiting = true
+frameUndamaged (frame-state.Owned v s g) = true
+frameUndamaged frame-state.Damaged = false

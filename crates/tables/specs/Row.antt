@@ -1,6 +1,6 @@
 -- Document 01, "Tables": "slot v's row starts at word v × W and covers granules 0 to W − 1 of its guest address space".
 use mathlib.Core.Bool.{cond}
-use mathlib.Core.List.{List}
+use mathlib.Core.List.{List, _++_}
 use Prim.Native.Nat.{ℕ, _+_, _*_, _-_}
 use lib.Dec.{ltb}
 use lib.ListN.{length, getD, take, drop}
@@ -17,6 +17,10 @@ boundsOf n v = cond (ltb v 8) (bounds (v * widthOf n) (v * widthOf n + widthOf n
 -- the row as a part of the map table
 abbrev pub rowOf : List ℕ → ℕ → List ℕ
 rowOf map v = let r = boundsOf (length map) v in take (r .end - r .start) (drop (r .start) map)
+
+-- the map table with other words as that row
+abbrev pub withRow : List ℕ → ℕ → List ℕ → List ℕ
+withRow map v words = let r = boundsOf (length map) v in take (r .start) map ++ (words ++ drop (r .end) map)
 
 -- the number of the word of granule g of slot v, in a map table of n words
 abbrev pub wordIndex : ℕ → ℕ → ℕ → ℕ

@@ -15,3 +15,4 @@ pub use pairs::pair_of;
 pub use rows::RowBounds;
 pub use rows::row;
 pub use rows::row_bounds;
+pub use rows::row_width;

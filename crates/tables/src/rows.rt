@@ -1,10 +1,18 @@
 ghost use mathlib.Core.Path.{_≡_};
+ghost use Rattle.tables.specs.Length.{widthOf};
 ghost use Rattle.tables.specs.Row.{boundsOf, rowOf};
 
 // Where a slot's row stands in a map table: from word `start` to before word `end`.
 pub struct RowBounds {
     pub start: usize,
     pub end: usize,
+}
+
+// The granules of a row in a map table of this many words.
+pub fn row_width(words: usize) -> usize
+    ensures { λ r. ⌜ r ≡ widthOf words ⌝ }
+{
+    words / 8
 }
 
 // The row of a slot in a map table of this many words. A slot above 7 has an empty row.

@@ -1,4 +1,6 @@
 -- Test by test, in their order.
+use Rattle.records.proofs.TestLaws.{tests-in-order}
+use Rattle.guest.specs.Calls.{callerTests}
 use borrow.Author.Needs.{needs}
 use Rattle.guest.proofs.admissions.caller_admission.Statement.{statement}
 use Rattle.guest.proofs.admissions.caller_admission.Tie as tie
@@ -6,18 +8,22 @@ use Rattle.guest.proofs.admissions.caller_admission.Tie as tie
 lengths-hold-requires : tie.Need-lengths-hold-requires
 lengths-hold-requires c κs = search needs
 
+check-requires : tie.Need-check-requires
+check-requires c κs = search needs
+
+check-requires-2 : tie.Need-check-requires-2
+check-requires-2 c κs = search needs
+
+check-requires-3 : tie.Need-check-requires-3
+check-requires-3 c κs = search needs
+
 returns : tie.Need-returns
-returns c = rw (← (c .before .before .before .lengths-hold .ensures), c .before .before .if1 .taken, c .before .if2 .taken, c .if3 .taken)
-
-returns-2 : tie.Need-returns-2
-returns-2 c = rw (← (c .before .before .before .lengths-hold .ensures), c .before .before .if1 .taken, c .before .if2 .taken, c .if3 .left)
-
-returns-3 : tie.Need-returns-3
-returns-3 c = rw (← (c .before .before .lengths-hold .ensures), c .before .if1 .taken, c .if2 .left)
-
-returns-4 : tie.Need-returns-4
-returns-4 c = rw (← (c .before .lengths-hold .ensures), c .if1 .left)
+returns c =
+    let start = c .before .before .before .before .args in
+    rw (c .check3 .ensures, c .before .check2 .ensures, c .before .before .check .ensures, c .before .before .before .lengths-hold .ensures)
+    (tests-in-order (callerTests (start .frame-words) (start .map-words) (start .guest)))
 
 pub caller-admission-spec : {M : Type 1} → statement M
 caller-admission-spec =
-    tie.close (tie.spec lengths-hold-requires returns returns-2 returns-3 returns-4)
+    tie.close
+    (tie.spec lengths-hold-requires check-requires check-requires-2 check-requires-3 returns)
