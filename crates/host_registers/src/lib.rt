@@ -1,0 +1,8 @@
+// The firmware registers of a guest, read and written by the host.
+// It rests on words and records. It takes no table.
+mod access;
+mod registers;
+
+pub use access::register_read;
+pub use access::register_write;
+pub use registers::FirmwareRegister;
