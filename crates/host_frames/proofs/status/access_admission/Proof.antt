@@ -1,0 +1,42 @@
+-- Test by test, in their order.
+use Rattle.records.proofs.TestLaws.{tests-in-order}
+use Rattle.host_frames.specs.Calls.{frameTests}
+use borrow.Author.Needs.{needs}
+use Rattle.host_frames.proofs.status.access_admission.Statement.{statement}
+use Rattle.host_frames.proofs.status.access_admission.Tie as tie
+
+pair-of-requires : tie.Need-pair-of-requires
+pair-of-requires c κs = search needs
+
+lengths-hold-requires : tie.Need-lengths-hold-requires
+lengths-hold-requires c κs = search needs
+
+check-requires : tie.Need-check-requires
+check-requires c κs = search needs
+
+check-requires-2 : tie.Need-check-requires-2
+check-requires-2 c κs = search needs
+
+frame-undamaged-requires : tie.Need-frame-undamaged-requires
+frame-undamaged-requires c κs = search needs
+
+check-requires-3 : tie.Need-check-requires-3
+check-requires-3 c κs = search needs
+
+returns : tie.Need-returns
+returns c =
+    let start = c .before .before .before .before .before .before .before .before .args in
+    rw (c .check3 .ensures, c .before .frame-undamaged .ensures, c .before .before .check2 .ensures, c .before .before .before .check .ensures, c .before .before .before .before .lengths-hold .ensures, c .before .before .before .before .before .pair-of .ensures)
+    (tests-in-order (frameTests (start .frames .now) (start .map .now) (start .frame)))
+
+pub access-admission-spec : {M : Type 1} → statement M
+access-admission-spec =
+    tie.close
+    (tie.spec
+    pair-of-requires
+    lengths-hold-requires
+    check-requires
+    check-requires-2
+    frame-undamaged-requires
+    check-requires-3
+    returns)

@@ -1,0 +1,78 @@
+ghost use mathlib.Core.Path.{_≡_};
+ghost use Rattle.records.specs.State.{state, answered};
+ghost use Rattle.records.specs.Tests.{firstRefusal, refusalBy};
+ghost use Rattle.host_frames.specs.Calls.{donateTests, donateOf};
+use crate::states::frame_hosts;
+use crate::states::frame_undamaged;
+use crate::states::granule_undamaged;
+use crate::states::granule_vacant;
+use records::Admission;
+use records::Answer;
+use records::Guest;
+use records::Monitor;
+use records::Reply;
+use tables::lengths_hold;
+use tables::pair_at;
+use tables::pair_of;
+use tables::row_bounds;
+use tables::row_width;
+use words::FrameWord;
+use words::Granule;
+use words::MapWord;
+
+// The host gives a frame to a vacant granule of a live guest, as private. It answers for any tables, records, slot, frame and granule number.
+pub fn donate(
+    monitor: Monitor,
+    frames: &mut [u32],
+    map: &mut [u32],
+    slot: u64,
+    frame: u64,
+    granule: u64,
+) -> Reply
+    ensures { λ r. ⌜ answered (state (now (frames .exit)) (now (map .exit)) (r .monitor)) (r .answer)
+        ≡ donateOf slot frame granule (state (now (frames .entry)) (now (map .entry)) monitor) ⌝ }
+{
+    let guest = monitor.guest(slot);
+    match donate_admission(frames, map, slot, frame, granule, guest) {
+        Admission::Refused(answer) => Reply { monitor, answer },
+        Admission::Passed => {
+            let bounds = row_bounds(map.len(), slot);
+            let number = granule as usize;
+            let index = bounds.start + number;
+            let given = frame as usize;
+            map[index] = MapWord::of_frame(false, given);
+            frames[given] = FrameWord::of_owner(slot as usize, false, number);
+            Reply {
+                monitor,
+                answer: Answer::Done(0),
+            }
+        }
+    }
+}
+
+// The tests of donate, of the record of the slot's guest.
+fn donate_admission(
+    frames: &[u32],
+    map: &[u32],
+    slot: u64,
+    frame: u64,
+    granule: u64,
+    guest: Guest,
+) -> Admission
+    ensures { λ r. ⌜ refusalBy r ≡ firstRefusal (donateTests (now (frames .entry)) (now (map .entry)) slot frame granule guest) ⌝ }
+{
+    let here = pair_at(map, frames, slot, Granule(granule));
+    let there = pair_of(map, frames, frame);
+    Admission::Passed
+        .check(lengths_hold(frames.len(), map.len()), Answer::BadLength)
+        .check(guest.live, Answer::NoGuest)
+        .check((frame as usize) < frames.len(), Answer::OutOfRange)
+        .check(
+            (granule as usize) < row_width(map.len()),
+            Answer::OutOfRange,
+        )
+        .check(granule_undamaged(here), Answer::Damaged)
+        .check(frame_undamaged(there), Answer::Damaged)
+        .check(frame_hosts(there), Answer::NotFree)
+        .check(granule_vacant(here), Answer::NotFree)
+}
