@@ -1,87 +1,87 @@
--- How a call about a frame comes out, by the admission that its tests gave it, and what holds where they passed.
-use mathlib.Core.Path.{_≡_}
-use mathlib.Core.Bool.{false}
-use mathlib.Core.List.{List}
-use Prim.Native.Nat.{ℕ, _<_, _^_}
-use native.Mathlib.Omega.{arith}
+-- How a call about a frame comes out: by the admission of its numbers, then by what the frame is.
+use mathlib.Core.Path.{_≡_, refl}
+use mathlib.Core.Bool.{true, false}
+use mathlib.Core.Option.{some}
+use Prim.Native.Nat.{ℕ, _<_}
 use borrow.Author.Tests.{ltb-true}
 use lib.ListN.{length, set}
-use Rattle.words.specs.MapWord.{mapBits}
 use Rattle.words.specs.FrameWord.{frameBits}
-use Rattle.words.specs.declared.map_word.MapWord.the-variants as map-word
 use Rattle.words.specs.declared.frame_word.FrameWord.the-variants as frame-word
-use Rattle.tables.specs.Length.{widthOf}
-use Rattle.tables.specs.Row.{wordIndex}
 use Rattle.tables.specs.Pair.{pairOf}
-use Rattle.tables.proofs.LengthLaws.{in-bounds}
-use Rattle.records.specs.Monitor.{guestOf}
-use Rattle.records.specs.State.{State, state, answered}
-use Rattle.records.specs.Tests.{firstRefusal, refusalBy}
-use Rattle.records.specs.declared.guest.Guest.{Guest}
+use Rattle.tables.specs.declared.pairs.FrameState.{FrameState}
+use Rattle.tables.specs.declared.pairs.FrameState.the-variants as frame-state
+use Rattle.records.specs.State.{State, state, Answered, answered}
+use Rattle.records.specs.Tests.{Tests, firstRefusal, refusalBy, unlessRefused}
 use Rattle.records.specs.declared.answer.Answer.{Answer}
-use Rattle.records.specs.declared.answer.Answer.the-variants.{Done}
+use Rattle.records.specs.declared.answer.Answer.the-variants.{Done, Damaged, NotWaiting}
 use Rattle.records.specs.declared.admission.Admission.{Admission}
 use Rattle.records.specs.declared.admission.Admission.the-variants.{Passed, Refused}
-use Rattle.records.proofs.MonitorLaws.{live-slot}
-use Rattle.records.proofs.TestLaws.{all-pass}
-use Rattle.host_frames.specs.Calls.{openTo, donateTests, donateOf, frameTests, clearedTests, clearedOf, hostAccessOf}
+use Rattle.records.proofs.TestLaws.{all-pass, first-refuse, first-pass}
+use Rattle.host_frames.specs.Calls.{openTo, rangeTests, accessLooks, clearedLooks, clearedTests, clearedOf, accessTests, hostAccessOf}
 
-module _ (f : ℕ) (s : State) (x : Admission) where
-  module _ (t : refusalBy x ≡ firstRefusal (frameTests (s .frames) (s .map) f)) where
-    pub access-refused : (a : Answer) → x ≡ Refused a → answered s a ≡ hostAccessOf f s
+-- what access answers where the numbers are in range, by what the frame is
+abbrev pub accessBy : FrameState → Answer
+accessBy frame-state.Host = Done 1
+accessBy frame-state.Waiting = Done 0
+accessBy (frame-state.Owned v true g) = Done 1
+accessBy (frame-state.Owned v false g) = Done 0
+accessBy frame-state.Damaged = Damaged
+
+access-refuses : (s : State) (d : FrameState)
+    → answered s (accessBy d) ≡ unlessRefused (firstRefusal (accessLooks d)) s (answered s (Done (openTo d)))
+access-refuses s frame-state.Host = refl
+access-refuses s frame-state.Waiting = refl
+access-refuses s (frame-state.Owned v true g) = refl
+access-refuses s (frame-state.Owned v false g) = refl
+access-refuses s frame-state.Damaged = refl
+
+-- what cleared comes to where the numbers are in range
+abbrev pub clearedBy : ℕ → State → FrameState → Answered
+clearedBy f s frame-state.Host = answered s NotWaiting
+clearedBy f s frame-state.Waiting = answered (state (set (s .frames) f 0) (s .map) (s .monitor)) (Done 0)
+clearedBy f s (frame-state.Owned v b g) = answered s NotWaiting
+clearedBy f s frame-state.Damaged = answered s Damaged
+
+cleared-refuses : (f : ℕ) (s : State) (d : FrameState)
+    → clearedBy f s d ≡ unlessRefused (firstRefusal (clearedLooks d)) s
+    (answered (state (set (s .frames) f (frameBits frame-word.Host)) (s .map) (s .monitor)) (Done 0))
+unfolding frameBits
+cleared-refuses f s frame-state.Host = refl
+cleared-refuses f s frame-state.Waiting = refl
+cleared-refuses f s (frame-state.Owned v b g) = refl
+cleared-refuses f s frame-state.Damaged = refl
+
+-- a call about frame f, whose numbers got the admission x
+module _ (f : ℕ) (s : State) (x : Admission) (t : refusalBy x ≡ firstRefusal (rangeTests (length (s .frames)) (length (s .map)) f)) where
+  abbrev range : Tests Answer
+  range = rangeTests (length (s .frames)) (length (s .map)) f
+
+  abbrev found : FrameState
+  found = pairOf (s .frames) (s .map) f
+
+  module _ (a : Answer) (p : x ≡ Refused a) where
+    pub access-refused : answered s a ≡ hostAccessOf f s
     unfolding hostAccessOf
-    access-refused a p = rw (← t, p)
+    access-refused = let e : firstRefusal (accessTests (s .frames) (s .map) f) ≡ some a = first-refuse range (accessLooks found) a (rw (← t, p)) in rw e
 
-    pub access-passed : x ≡ Passed → answered s (Done (openTo (pairOf (s .frames) (s .map) f))) ≡ hostAccessOf f s
-    unfolding hostAccessOf
-    access-passed p = rw (← t, p)
-
-  module _ (t : refusalBy x ≡ firstRefusal (clearedTests (s .frames) (s .map) f)) where
-    pub cleared-refused : (a : Answer) → x ≡ Refused a → answered s a ≡ clearedOf f s
+    pub cleared-refused : answered s a ≡ clearedOf f s
     unfolding clearedOf
-    cleared-refused a p = rw (← t, p)
+    cleared-refused = let e : firstRefusal (clearedTests (s .frames) (s .map) f) ≡ some a = first-refuse range (clearedLooks found) a (rw (← t, p)) in rw e
 
-    pub cleared-passed : x ≡ Passed → answered (state (set (s .frames) f 0) (s .map) (s .monitor)) (Done 0) ≡ clearedOf f s
-    unfolding clearedOf frameBits
-    cleared-passed p = rw (← t, p)
+  module _ (p : x ≡ Passed) where
+    pub in-range : f < length (s .frames)
+    in-range = ltb-true f (length (s .frames)) (all-pass range (rw (← t, p)) .1 .0)
 
-    pub cleared-in-range : x ≡ Passed → f < length (s .frames)
-    cleared-in-range p = ltb-true f (length (s .frames)) (all-pass (clearedTests (s .frames) (s .map) f) (rw (← t, p)) .1 .0)
+    -- and which was found to be d
+    module _ (k : FrameState) (e : k ≡ pairOf (s .frames) (s .map) f) (d : FrameState) (o : k ≡ d) where
+      pub access-found : answered s (accessBy d) ≡ hostAccessOf f s
+      unfolding hostAccessOf
+      access-found =
+          let same : firstRefusal (accessTests (s .frames) (s .map) f) ≡ firstRefusal (accessLooks found) = first-pass range (accessLooks found) (rw (← t, p)) in
+          rw (same, ← e, o) (access-refuses s d)
 
--- the numbers of a donation that passed its tests: they are in range, and have room in a word
-pub record InRange (frames map : List ℕ) (v f g : ℕ) : Type 0 where
-  pub slot : v < 8
-  pub frame : f < length frames
-  pub granule : g < widthOf (length map)
-  pub frame-fits : f < 2 ^ 16
-  pub granule-fits : g < 2 ^ 16
-
-module _ (v f g : ℕ) (s : State) (guest : Guest) (e : guest ≡ guestOf (s .monitor) v) (x : Admission)
-    (t : refusalBy x ≡ firstRefusal (donateTests (s .frames) (s .map) v f g guest)) where
-  pub donate-refused : (a : Answer) → x ≡ Refused a → answered s a ≡ donateOf v f g s
-  unfolding donateOf
-  donate-refused a p = rw (← e, ← t, p)
-
-  pub donate-passed : x ≡ Passed
-      → answered
-      (state
-      (set (s .frames) f (frameBits (frame-word.Owned v false g)))
-      (set (s .map) (wordIndex (length (s .map)) v g) (mapBits (map-word.Frame false f)))
-      (s .monitor))
-      (Done 0) ≡ donateOf v f g s
-  unfolding donateOf
-  donate-passed p = rw (← e, ← t, p)
-
-  pub donate-in-range : x ≡ Passed → InRange (s .frames) (s .map) v f g
-  donate-in-range p =
-      let passes = all-pass (donateTests (s .frames) (s .map) v f g guest) (rw (← t, p)) in
-      let bounds = in-bounds (length (s .frames)) (length (s .map)) (passes .0) in
-      let frame = ltb-true f (length (s .frames)) (passes .1 .1 .0) in
-      let granule = ltb-true g (widthOf (length (s .map))) (passes .1 .1 .1 .0) in
-      record {
-        slot = live-slot (s .monitor) v (rw e at (passes .1 .0));
-        frame = frame;
-        granule = granule;
-        frame-fits = omega (arith, frame, bounds .frames-most);
-        granule-fits = omega (arith, granule, bounds .width-most);
-      }
+      pub cleared-found : clearedBy f s d ≡ clearedOf f s
+      unfolding clearedOf
+      cleared-found =
+          let same : firstRefusal (clearedTests (s .frames) (s .map) f) ≡ firstRefusal (clearedLooks found) = first-pass range (clearedLooks found) (rw (← t, p)) in
+          rw (same, ← e, o) (cleared-refuses f s d)

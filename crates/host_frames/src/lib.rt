@@ -1,9 +1,6 @@
-// The host's calls about a frame: it is donated to a guest, cleared, or asked about.
-// It tests in document 01's order, and looks first and writes after. It rests on words, tables and records.
-mod donation;
-mod states;
+// The host's calls about a frame: a waiting one is confirmed as cleared, or the host asks whether it may access one.
+// It tests in document 01's order, and looks first and writes after. It looks at no record. It rests on words, tables and records.
 mod status;
 
-pub use donation::donate;
 pub use status::access;
 pub use status::cleared;

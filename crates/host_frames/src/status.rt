@@ -2,12 +2,10 @@ ghost use mathlib.Core.Path.{_≡_};
 ghost use Rattle.records.specs.State.{state, answered};
 ghost use Rattle.records.specs.Tests.{firstRefusal, refusalBy};
 ghost use Rattle.records.specs.declared.monitor.Monitor.{Monitor};
-ghost use Rattle.host_frames.specs.Calls.{frameTests, clearedTests, clearedOf, hostAccessOf};
-use crate::states::frame_undamaged;
-use crate::states::frame_waiting;
-use crate::states::open_to;
+ghost use Rattle.host_frames.specs.Calls.{rangeTests, clearedOf, hostAccessOf};
 use records::Admission;
 use records::Answer;
+use tables::FrameState;
 use tables::lengths_hold;
 use tables::pair_of;
 use words::FrameWord;
@@ -17,13 +15,22 @@ pub fn cleared(frames: &mut [u32], map: &[u32], frame: u64) -> Answer
     ensures { λ r. ⌜ ((records : Monitor) → answered (state (now (frames .exit)) (now (map .entry)) records) r
         ≡ clearedOf frame (state (now (frames .entry)) (now (map .entry)) records)) ⌝ }
 {
-    match cleared_admission(frames, map, frame) {
+    match range_admission(frames.len(), map.len(), frame) {
         Admission::Refused(answer) => answer,
-        Admission::Passed => {
-            let number = frame as usize;
-            frames[number] = FrameWord::HOST;
-            Answer::Done(0)
-        }
+        Admission::Passed => match pair_of(map, frames, frame) {
+            FrameState::Damaged => Answer::Damaged,
+            FrameState::Host => Answer::NotWaiting,
+            FrameState::Owned {
+                slot: _,
+                shared: _,
+                granule: _,
+            } => Answer::NotWaiting,
+            FrameState::Waiting => {
+                let number = frame as usize;
+                frames[number] = FrameWord::HOST;
+                Answer::Done(0)
+            }
+        },
     }
 }
 
@@ -32,31 +39,32 @@ pub fn access(frames: &[u32], map: &[u32], frame: u64) -> Answer
     ensures { λ r. ⌜ ((records : Monitor) → answered (state (now (frames .entry)) (now (map .entry)) records) r
         ≡ hostAccessOf frame (state (now (frames .entry)) (now (map .entry)) records)) ⌝ }
 {
-    match access_admission(frames, map, frame) {
+    match range_admission(frames.len(), map.len(), frame) {
         Admission::Refused(answer) => answer,
-        Admission::Passed => Answer::Done(open_to(pair_of(map, frames, frame))),
+        Admission::Passed => match pair_of(map, frames, frame) {
+            FrameState::Damaged => Answer::Damaged,
+            FrameState::Host => Answer::Done(1),
+            FrameState::Owned {
+                slot: _,
+                shared,
+                granule: _,
+            } => {
+                if shared {
+                    Answer::Done(1)
+                } else {
+                    Answer::Done(0)
+                }
+            }
+            FrameState::Waiting => Answer::Done(0),
+        },
     }
 }
 
-// The tests of access: the tables' lengths, a frame of the table, no damage.
-fn access_admission(frames: &[u32], map: &[u32], frame: u64) -> Admission
-    ensures { λ r. ⌜ refusalBy r ≡ firstRefusal (frameTests (now (frames .entry)) (now (map .entry)) frame) ⌝ }
+// The tests before any word is looked at: the tables' lengths, a frame of the table.
+fn range_admission(frame_words: usize, map_words: usize, frame: u64) -> Admission
+    ensures { λ r. ⌜ refusalBy r ≡ firstRefusal (rangeTests «frame_words» «map_words» frame) ⌝ }
 {
-    let found = pair_of(map, frames, frame);
     Admission::Passed
-        .check(lengths_hold(frames.len(), map.len()), Answer::BadLength)
-        .check((frame as usize) < frames.len(), Answer::OutOfRange)
-        .check(frame_undamaged(found), Answer::Damaged)
-}
-
-// The tests of cleared: the same, then a frame that waits.
-fn cleared_admission(frames: &[u32], map: &[u32], frame: u64) -> Admission
-    ensures { λ r. ⌜ refusalBy r ≡ firstRefusal (clearedTests (now (frames .entry)) (now (map .entry)) frame) ⌝ }
-{
-    let found = pair_of(map, frames, frame);
-    Admission::Passed
-        .check(lengths_hold(frames.len(), map.len()), Answer::BadLength)
-        .check((frame as usize) < frames.len(), Answer::OutOfRange)
-        .check(frame_undamaged(found), Answer::Damaged)
-        .check(frame_waiting(found), Answer::NotWaiting)
+        .check(lengths_hold(frame_words, map_words), Answer::BadLength)
+        .check((frame as usize) < frame_words, Answer::OutOfRange)
 }

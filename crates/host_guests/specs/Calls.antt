@@ -1,4 +1,4 @@
--- Document 01, "Host calls": create, run, remove and show a guest's row; with "Verdicts, in the order they are tested".
+-- Document 01, "Host calls": create, run and show a guest's row; with "Verdicts, in the order they are tested".
 use mathlib.Core.Bool.{cond}
 use mathlib.Core.List.{List, [], _∷_}
 use mathlib.Core.Option.{Option, none, some}
@@ -6,15 +6,15 @@ use Prim.Native.Nat.{ℕ, zero, suc}
 use lib.Dec.{ltb}
 use lib.ListN.{length}
 use Rattle.tables.specs.Length.{mapHolds, lengthsHold}
-use Rattle.tables.specs.Row.{rowOf, withRow}
-use Rattle.records.specs.Monitor.{zeroGuest, newGuest, markRun, guestOf, withGuest}
+use Rattle.tables.specs.Row.{rowOf}
+use Rattle.records.specs.Monitor.{newGuest, markRun, guestOf, withGuest}
 use Rattle.records.specs.State.{State, state, Answered, answered}
 use Rattle.records.specs.Tests.{Tests, firstRefusal, unlessRefused}
 use Rattle.records.specs.declared.guest.Guest.{Guest}
 use Rattle.records.specs.declared.monitor.Monitor.{Monitor}
 use Rattle.records.specs.declared.answer.Answer.{Answer}
 use Rattle.records.specs.declared.answer.Answer.the-variants.{Done, BadLength, NoGuest, Damaged, NoFreeSlot}
-use Rattle.rows.specs.WholeRow.{rowVacant, rowUndamaged, vacantRow, framesFreed, framesNamed}
+use Rattle.rows.specs.WholeRow.{rowVacant}
 
 -- the lowest of n slots from v on that isn't live, or v + n
 unfoldable pub freeFrom : Monitor → ℕ → ℕ → ℕ
@@ -51,23 +51,6 @@ runOf v s =
     let guest = guestOf (s .monitor) v in
     unlessRefused (firstRefusal (runTests guest)) s
     (answered (state (s .frames) (s .map) (withGuest (s .monitor) v (markRun guest))) (Done 0))
-
--- remove slot v, whose record is `guest`: lengths (1), slot (2), "the row and its frames" (6)
-abbrev pub removeTests : List ℕ → List ℕ → ℕ → Guest → Tests Answer
-removeTests frames map v guest =
-    (lengthsHold (length frames) (length map), BadLength)
-    ∷ (guest .live, NoGuest)
-    ∷ (rowUndamaged frames v (rowOf map v), Damaged)
-    ∷ []
-
--- "the row becomes vacant, each frame in it waits to be cleared, the record becomes zero. v0 is the number of frames."
-unfoldable pub removeOf : ℕ → State → Answered
-removeOf v s =
-    let row = rowOf (s .map) v in
-    unlessRefused (firstRefusal (removeTests (s .frames) (s .map) v (guestOf (s .monitor) v))) s
-    (answered
-    (state (framesFreed row (s .frames)) (withRow (s .map) v (vacantRow (length row))) (withGuest (s .monitor) v zeroGuest))
-    (Done (framesNamed row)))
 
 -- show: the map table's length (1), slot (2)
 abbrev pub showTests : ℕ → Guest → Tests Answer

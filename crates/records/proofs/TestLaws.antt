@@ -9,6 +9,19 @@ pub through : {A : Type 0} (a : Bool) (q : Option A) (r : A) → cond a q (some 
 through true q r h = (refl, h)
 through false q r h = (cc, cc)
 
+still-refused : {A : Type 0} (b : Bool) (q q′ : Option A) (r a : A) → (q ≡ some a → q′ ≡ some a) → cond b q (some r) ≡ some a → cond b q′ (some r) ≡ some a
+still-refused true q q′ r a f h = f h
+still-refused false q q′ r a f h = h
+
+-- tests before others: where they refuse, so do all; where they pass, the others decide
+pub first-refuse : {A : Type 0} (ts us : Tests A) (a : A) → firstRefusal ts ≡ some a → firstRefusal (ts ++ us) ≡ some a
+first-refuse [] us a h = cc
+first-refuse (t ∷ ts) us a h = still-refused (t .0) (firstRefusal ts) (firstRefusal (ts ++ us)) (t .1) a (λ e. first-refuse ts us a e) h
+
+pub first-pass : {A : Type 0} (ts us : Tests A) → firstRefusal ts ≡ none → firstRefusal (ts ++ us) ≡ firstRefusal us
+first-pass [] us h = refl
+first-pass (t ∷ ts) us h = let p = through (t .0) (firstRefusal ts) (t .1) h in rw (p .0) (first-pass ts us (p .1))
+
 -- every test holds
 abbrev pub Passes : {A : Type 0} → Tests A → Type 0
 Passes [] = Unit {0}

@@ -1,6 +1,6 @@
 ghost use mathlib.Core.Path.{_≡_};
 ghost use Rattle.tables.specs.Pair.{granuleUndamaged, frameUndamaged};
-ghost use Rattle.host_frames.specs.Calls.{granuleVacant, frameHosts, frameWaiting, openTo};
+ghost use Rattle.host_donation.specs.Calls.{granuleVacant, frameHosts};
 use tables::FrameState;
 use tables::GranuleState;
 
@@ -60,37 +60,5 @@ pub(crate) fn frame_hosts(state: FrameState) -> bool
             granule: _,
         } => false,
         FrameState::Damaged => false,
-    }
-}
-
-// Whether a frame waits to be cleared.
-pub(crate) fn frame_waiting(state: FrameState) -> bool
-    ensures { λ r. ⌜ r ≡ frameWaiting state ⌝ }
-{
-    match state {
-        FrameState::Host => false,
-        FrameState::Waiting => true,
-        FrameState::Owned {
-            slot: _,
-            shared: _,
-            granule: _,
-        } => false,
-        FrameState::Damaged => false,
-    }
-}
-
-// 1 for a frame that the host may access, else 0.
-pub(crate) fn open_to(state: FrameState) -> u64
-    ensures { λ r. ⌜ r ≡ openTo state ⌝ }
-{
-    match state {
-        FrameState::Host => 1,
-        FrameState::Waiting => 0,
-        FrameState::Owned {
-            slot: _,
-            shared,
-            granule: _,
-        } => { if shared { 1 } else { 0 } }
-        FrameState::Damaged => 0,
     }
 }

@@ -4,7 +4,7 @@ ghost use Rattle.tables.specs.Row.{rowOf, withRow};
 ghost use Rattle.records.specs.State.{state, answered};
 ghost use Rattle.records.specs.Tests.{firstRefusal, refusalBy};
 ghost use Rattle.rows.specs.WholeRow.{vacantRow, framesFreed, framesNamed};
-ghost use Rattle.host_guests.specs.Calls.{removeTests, removeOf};
+ghost use Rattle.host_removal.specs.Calls.{removeTests, removeOf};
 use records::Admission;
 use records::Answer;
 use records::Guest;

@@ -1,9 +1,9 @@
 -- Test by test, in their order.
 use Rattle.records.proofs.TestLaws.{tests-in-order}
-use Rattle.host_frames.specs.Calls.{donateTests}
+use Rattle.host_donation.specs.Calls.{donateTests}
 use borrow.Author.Needs.{needs}
-use Rattle.host_frames.proofs.donation.donate_admission.Statement.{statement}
-use Rattle.host_frames.proofs.donation.donate_admission.Tie as tie
+use Rattle.host_donation.proofs.donation.donate_admission.Statement.{statement}
+use Rattle.host_donation.proofs.donation.donate_admission.Tie as tie
 
 pair-at-requires : tie.Need-pair-at-requires
 pair-at-requires c κs = search needs

@@ -1,9 +1,9 @@
 -- By the admission.
 use Rattle.records.specs.State.{state}
-use Rattle.host_guests.proofs.GuestLaws.{remove-refused, remove-passed}
+use Rattle.host_removal.proofs.RemovalLaws.{remove-refused, remove-passed}
 use borrow.Author.Needs.{needs}
-use Rattle.host_guests.proofs.removal.remove.Statement.{statement}
-use Rattle.host_guests.proofs.removal.remove.Tie as tie
+use Rattle.host_removal.proofs.removal.remove.Statement.{statement}
+use Rattle.host_removal.proofs.removal.remove.Tie as tie
 
 guest-requires : tie.Need-guest-requires
 guest-requires c κs = search needs

@@ -5,8 +5,8 @@ use Rattle.records.specs.declared.answer.Answer.the-variants.{NoGuest, Damaged}
 use Rattle.records.proofs.TestLaws.{tests-in-order}
 use Rattle.rows.specs.WholeRow.{rowUndamaged}
 use borrow.Author.Needs.{needs}
-use Rattle.host_guests.proofs.removal.remove_admission.Statement.{statement}
-use Rattle.host_guests.proofs.removal.remove_admission.Tie as tie
+use Rattle.host_removal.proofs.removal.remove_admission.Statement.{statement}
+use Rattle.host_removal.proofs.removal.remove_admission.Tie as tie
 
 lengths-hold-requires : tie.Need-lengths-hold-requires
 lengths-hold-requires c κs = search needs

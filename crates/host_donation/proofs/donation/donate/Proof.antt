@@ -6,10 +6,10 @@ use lib.ListN.{length}
 use Rattle.tables.specs.Row.{wordIndex}
 use Rattle.tables.proofs.RowLaws.{index-inside}
 use Rattle.records.specs.State.{state}
-use Rattle.host_frames.proofs.FrameLaws.{InRange, donate-in-range, donate-refused, donate-passed}
+use Rattle.host_donation.proofs.DonationLaws.{InRange, donate-in-range, donate-refused, donate-passed}
 use borrow.Author.Needs.{needs}
-use Rattle.host_frames.proofs.donation.donate.Statement.{statement}
-use Rattle.host_frames.proofs.donation.donate.Tie as tie
+use Rattle.host_donation.proofs.donation.donate.Statement.{statement}
+use Rattle.host_donation.proofs.donation.donate.Tie as tie
 
 -- where the function begins, of a place where its tests have passed
 abbrev first : tie.After-struct-known → tie.Start

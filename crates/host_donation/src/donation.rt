@@ -1,7 +1,7 @@
 ghost use mathlib.Core.Path.{_≡_};
 ghost use Rattle.records.specs.State.{state, answered};
 ghost use Rattle.records.specs.Tests.{firstRefusal, refusalBy};
-ghost use Rattle.host_frames.specs.Calls.{donateTests, donateOf};
+ghost use Rattle.host_donation.specs.Calls.{donateTests, donateOf};
 use crate::states::frame_hosts;
 use crate::states::frame_undamaged;
 use crate::states::granule_undamaged;

@@ -1,10 +1,10 @@
 -- The row is within the table, and the part that is lent is the row.
 use native.Mathlib.Omega.{arith}
 use Rattle.tables.proofs.RowLaws.{in-order}
-use Rattle.host_guests.proofs.GuestLaws.{row-vacated}
+use Rattle.host_removal.proofs.RemovalLaws.{row-vacated}
 use borrow.Author.Needs.{needs}
-use Rattle.host_guests.proofs.removal.vacate_slot.Statement.{statement}
-use Rattle.host_guests.proofs.removal.vacate_slot.Tie as tie
+use Rattle.host_removal.proofs.removal.vacate_slot.Statement.{statement}
+use Rattle.host_removal.proofs.removal.vacate_slot.Tie as tie
 
 row-bounds-requires : tie.Need-row-bounds-requires
 row-bounds-requires c κs = search needs
