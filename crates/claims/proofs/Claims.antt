@@ -2,6 +2,7 @@
 -- No theorem assumes anything of the state: lengths, tables and records may be sound or damaged.
 use mathlib.Core.Path.{_≡_, refl}
 use mathlib.Core.Logic.{_≢_}
+use mathlib.Core.Bool.{true}
 use mathlib.Core.List.{List, map}
 use Prim.Native.Nat.{ℕ, _%_, _<_, _^_}
 use native.Mathlib.Omega.{arith}
@@ -22,6 +23,8 @@ use Rattle.functions.specs.Table.{rowOf, actionOf}
 use Rattle.functions.specs.declared.rows.Registers.{Registers}
 use Rattle.guest.specs.Calls.{actOf, hypercallOf, accessOf, abortOf}
 use Rattle.claims.specs.SingleSteps.{RangeCall, numberOf, at, singleStep, singleSteps}
+use Rattle.claims.specs.Step.{Call, step}
+use Rattle.claims.specs.Refusals.{isRefusal}
 use Rattle.claims.specs.Pieces.{registers, callAt, carriedOn, CountsChanges, AddressFits}
 use Rattle.claims.specs.R1.{TellsChanges}
 use Rattle.claims.specs.Footprint.{Within}
@@ -31,6 +34,7 @@ use Rattle.claims.proofs.Changes.{single-steps-count}
 use Rattle.claims.proofs.Addresses.{calls-fit}
 use Rattle.claims.proofs.R1Laws.{tells-changes}
 use Rattle.claims.proofs.FootprintLaws.{hypercall-within}
+use Rattle.claims.proofs.RefusalLaws.{KeptRefused, step-kept}
 
 -- A range call of slot v: R0 has the number of one of the four calls in its low half, and anything above.
 module _ (c : RangeCall) (r0 : ℕ) (number : r0 % 2 ^ 32 ≡ numberOf c) (v b r3 : ℕ) (s : State) where
@@ -59,7 +63,13 @@ module _ (c : RangeCall) (r0 : ℕ) (number : r0 % 2 ^ 32 ≡ numberOf c) (v b r
 pub footprint : (v : ℕ) (r : Registers) (s : State) → Within v s (hypercallOf v r s .left)
 footprint v r s = hypercall-within v r s
 
+-- "Refusals 1 to 9 change nothing", and a hypercall answered with −1 or −3 changes nothing either: for every call and every state, such an
+-- answer leaves both tables and the records as found.
+pub refusals-change-nothing : (c : Call) (s : State) → isRefusal (numbersOf (step c s .answer)) ≡ true → step c s .left ≡ s
+unfolding KeptRefused
+refusals-change-nothing c s h = step-kept c s h
+
 -- "Cases marked * are proved about the rules themselves, together, as one table under one statement"
 pub case-table : map found cases ≡ map expected cases
-unfolding hypercallOf abortOf actOf accessOf functionOf rowOf actionOf stepFrom changeOf granuleState pairAt mapWordOf frameWordOf mapBits frameBits numbersOf guestOf withGuest framesHold mapHolds
+unfolding step hypercallOf abortOf actOf accessOf functionOf rowOf actionOf stepFrom changeOf granuleState pairAt mapWordOf frameWordOf mapBits frameBits numbersOf guestOf withGuest framesHold mapHolds
 case-table = refl

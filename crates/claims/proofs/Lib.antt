@@ -7,3 +7,4 @@ pub mod Changes
 pub mod Addresses
 pub mod R1Laws
 pub mod FootprintLaws
+pub mod RefusalLaws

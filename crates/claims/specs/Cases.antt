@@ -5,11 +5,11 @@ use Prim.Native.Nat.{ℕ, _+_, _-_, _^_}
 use lib.ListN.{replicate, set}
 use Rattle.records.specs.Monitor.{fresh, withGuest}
 use Rattle.records.specs.Answer.{numbers, verdictWith, numbersOf}
-use Rattle.records.specs.State.{State, state, Answered}
+use Rattle.records.specs.State.{State, state}
 use Rattle.records.specs.declared.guest.Guest.{Guest}
 use Rattle.records.specs.declared.answer.Numbers.{Numbers}
-use Rattle.guest.specs.Calls.{hypercallOf, abortOf}
 use Rattle.claims.specs.Pieces.{registers}
+use Rattle.claims.specs.Step.{Call, hypercall, abort, step, stateAfter}
 
 -- "Slot 0, F = 256, W = 64, run", granule g private (the frame is 3), the others vacant
 abbrev pub caller : Guest
@@ -18,26 +18,12 @@ caller = record { live = true; run = true; enrolled = false; std = 0; «std_hyp�
 abbrev pub bench : ℕ → State
 bench g = state (set (replicate 256 0) 3 (0x01000000 + g)) (set (replicate 512 0) g 0x40000003) (withGuest fresh 0 caller)
 
--- a call of slot 0: a hypercall with R0 to R3, or an abort at an IPA
-pub data Call : Type 0 where
-  hypercall : ℕ → ℕ → ℕ → ℕ → Call
-  abort : ℕ → Call
-
-abbrev pub call : State → Call → Answered
-call s (hypercall a b c d) = hypercallOf 0 (registers a b c d) s
-call s (abort a) = abortOf 0 a s
-
--- calls in turn, and the state that they leave
-abbrev pub calls : State → List Call → State
-calls s [] = s
-calls s (c ∷ cs) = calls (call s c .left) cs
-
 -- a case: the granule that is private, the calls before, the call, and the numbers of its answer
 pub data Case : Type 0 where
   case : ℕ → List Call → Call → Numbers → Case
 
 abbrev pub found : Case → Numbers
-found (case g before c n) = numbersOf (call (calls (bench g) before) c .answer)
+found (case g before c n) = numbersOf (step c (stateAfter before (bench g)) .answer)
 
 abbrev pub expected : Case → Numbers
 expected (case g before c n) = n
@@ -49,11 +35,15 @@ done k = numbers 10 0 k 0 0
 abbrev pub minus : ℕ → Numbers
 minus n = verdictWith 10 (2 ^ 64 - n)
 
+-- calls of slot 0
+abbrev pub hypercall0 : ℕ → ℕ → ℕ → ℕ → Call
+hypercall0 a b c d = hypercall 0 (registers a b c d)
+
 abbrev pub share : ℕ → ℕ → Call
-share b n = hypercall 0xC6000003 b n 0
+share b n = hypercall0 0xC6000003 b n 0
 
 abbrev pub enroll : Call
-enroll = hypercall 0xC6000006 0 0 0
+enroll = hypercall0 0xC6000006 0 0 0
 
 -- in the sheet's order
 abbrev pub cases : List Case
@@ -62,13 +52,13 @@ cases =
     ∷ case 5 (share 0x5000 2 ∷ []) (share 0x6000 1) (minus 3)
     ∷ case 5 [] (share 0x5000 0) (done 1)
     ∷ case 5 [] (share 0x5001 0) (minus 3)
-    ∷ case 5 [] (hypercall 0xC6000003 0x5000 0 1) (minus 3)
+    ∷ case 5 [] (hypercall0 0xC6000003 0x5000 0 1) (minus 3)
     ∷ case 5 [] (share 0xFFFFFFFFFFFFF000 2) (minus 3)
     ∷ case 63 [] (share 0x3F000 2) (done 1)
-    ∷ case 5 [] (hypercall 0x1C6000003 0x5000 0 0) (done 1)
-    ∷ case 5 [] (hypercall 0xC600000C 0 0 0) (minus 1)
-    ∷ case 5 (enroll ∷ []) (hypercall 0xC600000A 0x7000 0 0) (minus 1)
-    ∷ case 5 (enroll ∷ []) (hypercall 0xC6000007 0x5000 0 0) (minus 1)
-    ∷ case 5 [] (abort 0x6000) (verdictWith 11 0x6000)
-    ∷ case 5 (enroll ∷ []) (abort 0x6000) (verdictWith 12 0)
+    ∷ case 5 [] (hypercall0 0x1C6000003 0x5000 0 0) (done 1)
+    ∷ case 5 [] (hypercall0 0xC600000C 0 0 0) (minus 1)
+    ∷ case 5 (enroll ∷ []) (hypercall0 0xC600000A 0x7000 0 0) (minus 1)
+    ∷ case 5 (enroll ∷ []) (hypercall0 0xC6000007 0x5000 0 0) (minus 1)
+    ∷ case 5 [] (abort 0 0x6000) (verdictWith 11 0x6000)
+    ∷ case 5 (enroll ∷ []) (abort 0 0x6000) (verdictWith 12 0)
     ∷ []

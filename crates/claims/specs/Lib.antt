@@ -1,3 +1,5 @@
+pub mod Step
+pub mod Refusals
 pub mod SingleSteps
 pub mod Pieces
 pub mod R1

@@ -49,12 +49,14 @@ donateTests frames map v f g guest =
     ∷ []
 
 -- "Donate a host frame to a vacant granule of a live guest: it becomes private."
-unfoldable pub donateOf : ℕ → ℕ → ℕ → State → Answered
-donateOf v f g s =
-    unlessRefused (firstRefusal (donateTests (s .frames) (s .map) v f g (guestOf (s .monitor) v))) s
-    (answered
+abbrev pub donated : ℕ → ℕ → ℕ → State → Answered
+donated v f g s =
+    answered
     (state
     (set (s .frames) f (frameBits (frame-word.Owned v false g)))
     (set (s .map) (wordIndex (length (s .map)) v g) (mapBits (map-word.Frame false f)))
     (s .monitor))
-    (Done 0))
+    (Done 0)
+
+unfoldable pub donateOf : ℕ → ℕ → ℕ → State → Answered
+donateOf v f g s = unlessRefused (firstRefusal (donateTests (s .frames) (s .map) v f g (guestOf (s .monitor) v))) s (donated v f g s)

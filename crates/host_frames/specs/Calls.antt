@@ -47,13 +47,15 @@ abbrev pub clearedTests : List ℕ → List ℕ → ℕ → Tests Answer
 clearedTests frames map f = rangeTests (length frames) (length map) f ++ clearedLooks (pairOf frames map f)
 
 -- "Cleared: a waiting frame becomes the host's and can be donated again."
+abbrev pub handedBack : ℕ → State → Answered
+handedBack f s = answered (state (set (s .frames) f (frameBits frame-word.Host)) (s .map) (s .monitor)) (Done 0)
+
 unfoldable pub clearedOf : ℕ → State → Answered
-clearedOf f s =
-    unlessRefused (firstRefusal (clearedTests (s .frames) (s .map) f)) s
-    (answered (state (set (s .frames) f (frameBits frame-word.Host)) (s .map) (s .monitor)) (Done 0))
+clearedOf f s = unlessRefused (firstRefusal (clearedTests (s .frames) (s .map) f)) s (handedBack f s)
 
 -- "May the host access this frame"; "A shared or private frame is checked against its owner's map word."
+abbrev pub accessTold : ℕ → State → Answered
+accessTold f s = answered s (Done (openTo (pairOf (s .frames) (s .map) f)))
+
 unfoldable pub hostAccessOf : ℕ → State → Answered
-hostAccessOf f s =
-    unlessRefused (firstRefusal (accessTests (s .frames) (s .map) f)) s
-    (answered s (Done (openTo (pairOf (s .frames) (s .map) f))))
+hostAccessOf f s = unlessRefused (firstRefusal (accessTests (s .frames) (s .map) f)) s (accessTold f s)

@@ -35,22 +35,25 @@ createTests frames map v =
     ∷ []
 
 -- "create sets every field anew"; "v0 is the slot."
+abbrev pub created : ℕ → State → Answered
+created v s = answered (state (s .frames) (s .map) (withGuest (s .monitor) v newGuest)) (Done v)
+
+-- "Create: takes the lowest slot that isn't live"
 unfoldable pub createOf : State → Answered
 createOf s =
     let v = freeSlot (s .monitor) in
-    unlessRefused (firstRefusal (createTests (s .frames) (s .map) v)) s
-    (answered (state (s .frames) (s .map) (withGuest (s .monitor) v newGuest)) (Done v))
+    unlessRefused (firstRefusal (createTests (s .frames) (s .map) v)) s (created v s)
 
 -- run: slot (2)
 abbrev pub runTests : Guest → Tests Answer
 runTests guest = (guest .live, NoGuest) ∷ []
 
 -- "Run: marks the guest as run; again changes nothing."
+abbrev pub ran : ℕ → State → Answered
+ran v s = answered (state (s .frames) (s .map) (withGuest (s .monitor) v (markRun (guestOf (s .monitor) v)))) (Done 0)
+
 unfoldable pub runOf : ℕ → State → Answered
-runOf v s =
-    let guest = guestOf (s .monitor) v in
-    unlessRefused (firstRefusal (runTests guest)) s
-    (answered (state (s .frames) (s .map) (withGuest (s .monitor) v (markRun guest))) (Done 0))
+runOf v s = unlessRefused (firstRefusal (runTests (guestOf (s .monitor) v))) s (ran v s)
 
 -- show: the map table's length (1), slot (2)
 abbrev pub showTests : ℕ → Guest → Tests Answer

@@ -67,16 +67,16 @@ abbrev pub writeTests : Guest → FirmwareRegister → ℕ → Tests Answer
 writeTests g r x = readTests g r ++ ((withinLimit r x, invalidValue) ∷ (not (g .run), busy) ∷ [])
 
 -- "register read gives the bitmap in v0"
+abbrev pub bitmapTold : ℕ → ℕ → State → Answered
+bitmapTold v n s = answered s (Done (bitmapOf (registerNumbered n) (guestOf (s .monitor) v)))
+
 unfoldable pub registerReadOf : ℕ → ℕ → State → Answered
-registerReadOf v n s =
-    let guest = guestOf (s .monitor) v in
-    let register = registerNumbered n in
-    unlessRefused (firstRefusal (readTests guest register)) s
-    (answered s (Done (bitmapOf register guest)))
+registerReadOf v n s = unlessRefused (firstRefusal (readTests (guestOf (s .monitor) v) (registerNumbered n))) s (bitmapTold v n s)
+
+-- a write that is done changes the bitmap and nothing else
+abbrev pub bitmapWritten : ℕ → ℕ → ℕ → State → Answered
+bitmapWritten v n x s =
+    answered (state (s .frames) (s .map) (withGuest (s .monitor) v (withBitmap (registerNumbered n) x (guestOf (s .monitor) v)))) (Done 0)
 
 unfoldable pub registerWriteOf : ℕ → ℕ → ℕ → State → Answered
-registerWriteOf v n x s =
-    let guest = guestOf (s .monitor) v in
-    let register = registerNumbered n in
-    unlessRefused (firstRefusal (writeTests guest register x)) s
-    (answered (state (s .frames) (s .map) (withGuest (s .monitor) v (withBitmap register x guest))) (Done 0))
+registerWriteOf v n x s = unlessRefused (firstRefusal (writeTests (guestOf (s .monitor) v) (registerNumbered n) x)) s (bitmapWritten v n x s)

@@ -21,10 +21,12 @@ removeTests frames map v guest =
     ∷ []
 
 -- "the row becomes vacant, each frame in it waits to be cleared, the record becomes zero. v0 is the number of frames."
-unfoldable pub removeOf : ℕ → State → Answered
-removeOf v s =
+abbrev pub removed : ℕ → State → Answered
+removed v s =
     let row = rowOf (s .map) v in
-    unlessRefused (firstRefusal (removeTests (s .frames) (s .map) v (guestOf (s .monitor) v))) s
-    (answered
+    answered
     (state (framesFreed row (s .frames)) (withRow (s .map) v (vacantRow (length row))) (withGuest (s .monitor) v zeroGuest))
-    (Done (framesNamed row)))
+    (Done (framesNamed row))
+
+unfoldable pub removeOf : ℕ → State → Answered
+removeOf v s = unlessRefused (firstRefusal (removeTests (s .frames) (s .map) v (guestOf (s .monitor) v))) s (removed v s)

@@ -6,6 +6,11 @@ use native.Mathlib.Omega.{arith}
 use Rattle.runs.specs.Run.{Step, took, refuses, complete, refused, outOfFuel, End, ended, oneMore, after, onward, run, andThen, countOf, stopOf}
 use Rattle.runs.proofs.Ends.{after-zero, after-suc}
 
+-- an end with nothing done stands at s
+abbrev pub StandsAt : {S R : Type 0} → S → End S R → Type 0
+StandsAt s (ended zero t r) = t ≡ s
+StandsAt s (ended (suc k) t r) = Unit {0}
+
 module _ {S R : Type 0} (step : S → Step S R) where
   -- from an end on, towards m steps in all
   abbrev pub resume : ℕ → End S R → End S R
@@ -51,6 +56,18 @@ module _ {S R : Type 0} (step : S → Step S R) where
       on : ((t : S) → countOf (run step n t) ≤ n) → (o : Step S R) → countOf (onward (λ t. run step n t) s o) ≤ suc n
       on ih (took t) = one (run step n t) (ih t)
       on ih (refuses r) = omega arith
+
+  -- a run that did nothing stands where it began
+  pub run-none : (n : ℕ) (s : S) → StandsAt s (run step n s)
+  run-none zero s = refl
+  run-none (suc n) s = on (step s)
+    where
+      one : (e : End S R) → StandsAt s (oneMore e)
+      one (ended k t r) = tt
+
+      on : (o : Step S R) → StandsAt s (onward (λ t. run step n t) s o)
+      on (took t) = one (run step n t)
+      on (refuses r) = refl
 
   -- a run needs no fuel
   pub run-fuelled : (n : ℕ) (s : S) → stopOf (run step n s) ≡ outOfFuel → ⊥

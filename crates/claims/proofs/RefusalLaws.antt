@@ -1,0 +1,113 @@
+-- A call tests before it writes, and what it answers once it has written is no refusal.
+use mathlib.Core.Path.{_≡_, refl}
+use mathlib.Core.Bool.{Bool, true}
+use mathlib.Core.Option.{Option, none, some}
+use Prim.Native.Nat.{ℕ, zero, suc, min}
+use native.Mathlib.Omega.{arith}
+use lib.IntN.{pos}
+use lib.ListN.{length}
+use Rattle.runs.specs.Run.{End, ended, run as runSteps}
+use Rattle.runs.proofs.Runs.{StandsAt, run-none}
+use Rattle.words.specs.Granule.{granuleOf}
+use Rattle.records.specs.Answer.{numbersOf}
+use Rattle.records.specs.Monitor.{guestOf}
+use Rattle.records.specs.State.{State, state, Answered, answered}
+use Rattle.records.specs.Tests.{firstRefusal, unlessRefused}
+use Rattle.records.specs.declared.answer.Answer.{Answer}
+use Rattle.records.specs.declared.answer.Answer.the-variants.{Done}
+use Rattle.granules.specs.Step.{rangeLimit, Place, place, Refusal, tableStep}
+use Rattle.functions.specs.Function.{askedBy}
+use Rattle.functions.specs.Table.{returned, rowOf, actionOf}
+use Rattle.functions.specs.declared.rows.Registers.{Registers}
+use Rattle.functions.specs.declared.rows.Error.{Error}
+use Rattle.functions.specs.declared.actions.Action.{Action}
+use Rattle.functions.specs.declared.actions.Action.the-variants as action
+use Rattle.guest.specs.Calls.{callerTests, rowTests, finished, actOf, hypercallOf, accessOf, abortOf}
+use Rattle.host_registers.specs.Registers.{registerNumbered, readTests, writeTests, bitmapTold, registerReadOf, bitmapWritten, registerWriteOf}
+use Rattle.host_donation.specs.Calls.{donateTests, donated, donateOf}
+use Rattle.host_frames.specs.Calls.{accessTests, clearedTests, handedBack, clearedOf, accessTold, hostAccessOf}
+use Rattle.host_guests.specs.Calls.{freeSlot, createTests, created, createOf, runTests, ran, runOf}
+use Rattle.host_removal.specs.Calls.{removeTests, removed, removeOf}
+use Rattle.claims.specs.Step.{Call, create, donate, run, remove, cleared, access, show, registerRead, registerWrite, hypercall, abort, step}
+use Rattle.claims.specs.Refusals.{isRefusal}
+
+-- where the answer is a refusal, the state is s
+unfoldable pub KeptRefused : State → Answered → Type 0
+KeptRefused s r = isRefusal (numbersOf (r .answer)) ≡ true → r .left ≡ s
+
+-- a call that leaves the state keeps it, however it answers
+same-kept : (s : State) (a : Answer) → KeptRefused s (answered s a)
+unfolding KeptRefused
+same-kept s a h = refl
+
+-- a host call that is done is no refusal
+done-kept : (s t : State) (n : ℕ) → KeptRefused s (answered t (Done n))
+unfolding KeptRefused numbersOf
+done-kept s t n h = let z : _≡_ {A = ℕ} 0 1 = cc in absurd (omega arith)
+
+tests-kept : (q : Option Answer) (s : State) (done : Answered) → KeptRefused s done → KeptRefused s (unlessRefused q s done)
+unfolding KeptRefused
+tests-kept none s done h = h
+tests-kept (some a) s done h = λ e. refl
+
+-- R0 = 0 is no refusal
+zero-kept : (s t : State) → KeptRefused s (answered t (returned (pos 0) 0))
+unfolding KeptRefused numbersOf
+zero-kept s t h = let z : _≡_ {A = ℕ} 0 1 = cc in absurd (omega arith)
+
+-- a range that did a granule answers 0 in R0; one that did none left all as it was
+range-kept : (s : State) (g : ℕ) (e : Error) (tells : Bool) (x : End Place Refusal) → StandsAt (place (s .map) (s .frames) g) x
+    → KeptRefused s (finished e tells (s .monitor) x)
+unfolding KeptRefused numbersOf
+range-kept s g e tells (ended zero (place map frames h) r) at q =
+    let m : map ≡ s .map = cc in
+    let f : frames ≡ s .frames = cc in
+    rw (m, f)
+range-kept s g e tells (ended (suc k) (place map frames h) r) at q = let z : _≡_ {A = ℕ} 0 1 = cc in absurd (omega arith)
+
+act-kept : (v b : ℕ) (e : Error) (a : Action) (s : State) → KeptRefused s (actOf v b e a s)
+unfolding actOf
+act-kept v b e action.Refuse s = same-kept s _
+act-kept v b e (action.Tell r0 r1 r2 r3) s = same-kept s _
+act-kept v b e action.Enroll s = zero-kept s _
+act-kept v b e (action.Change o n tells) s =
+    let steps = min rangeLimit n in
+    let start = place (s .map) (s .frames) (granuleOf b) in
+    range-kept s (granuleOf b) e tells (runSteps (tableStep o v) steps start) (run-none (tableStep o v) steps start)
+
+hypercall-kept : (v : ℕ) (r : Registers) (s : State) → KeptRefused s (hypercallOf v r s)
+unfolding hypercallOf
+hypercall-kept v r s =
+    let caller = guestOf (s .monitor) v in
+    let f = askedBy (r .r0) in
+    let act = actOf v (r .r1) (rowOf f .error) (actionOf f (r .r2)) s in
+    let refusal = firstRefusal (rowTests (rowOf f) r caller) in
+    tests-kept (firstRefusal (callerTests (length (s .frames)) (length (s .map)) caller)) s (unlessRefused refusal s act)
+    (tests-kept refusal s act
+    (act-kept v (r .r1) (rowOf f .error) (actionOf f (r .r2)) s))
+
+abort-kept : (v a : ℕ) (s : State) → KeptRefused s (abortOf v a s)
+unfolding abortOf
+abort-kept v a s =
+    let caller = guestOf (s .monitor) v in
+    let told = accessOf (s .frames) (s .map) v a caller in
+    tests-kept (firstRefusal (callerTests (length (s .frames)) (length (s .map)) caller)) s (answered s told) (same-kept s told)
+
+pub step-kept : (c : Call) (s : State) → KeptRefused s (step c s)
+unfolding step createOf donateOf runOf removeOf clearedOf hostAccessOf registerReadOf registerWriteOf
+step-kept create s =
+    let v = freeSlot (s .monitor) in
+    tests-kept (firstRefusal (createTests (s .frames) (s .map) v)) s (created v s) (done-kept s _ _)
+step-kept (donate v f g) s =
+    tests-kept (firstRefusal (donateTests (s .frames) (s .map) v f g (guestOf (s .monitor) v))) s (donated v f g s) (done-kept s _ _)
+step-kept (run v) s = tests-kept (firstRefusal (runTests (guestOf (s .monitor) v))) s (ran v s) (done-kept s _ _)
+step-kept (remove v) s = tests-kept (firstRefusal (removeTests (s .frames) (s .map) v (guestOf (s .monitor) v))) s (removed v s) (done-kept s _ _)
+step-kept (cleared f) s = tests-kept (firstRefusal (clearedTests (s .frames) (s .map) f)) s (handedBack f s) (done-kept s _ _)
+step-kept (access f) s = tests-kept (firstRefusal (accessTests (s .frames) (s .map) f)) s (accessTold f s) (same-kept s _)
+step-kept (show v) s = same-kept s _
+step-kept (registerRead v n) s =
+    tests-kept (firstRefusal (readTests (guestOf (s .monitor) v) (registerNumbered n))) s (bitmapTold v n s) (same-kept s _)
+step-kept (registerWrite v n x) s =
+    tests-kept (firstRefusal (writeTests (guestOf (s .monitor) v) (registerNumbered n) x)) s (bitmapWritten v n x s) (done-kept s _ _)
+step-kept (hypercall v r) s = hypercall-kept v r s
+step-kept (abort v a) s = abort-kept v a s
