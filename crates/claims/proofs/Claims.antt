@@ -12,7 +12,8 @@ use Rattle.runs.proofs.Pieces.{pieces-run, pieces-fuelled}
 use Rattle.words.specs.MapWord.{mapBits, mapWordOf}
 use Rattle.words.specs.FrameWord.{frameBits, frameWordOf}
 use Rattle.tables.specs.Length.{framesHold, mapHolds}
-use Rattle.tables.specs.Pair.{granuleState, pairAt}
+use Rattle.tables.specs.Row.{boundsOf}
+use Rattle.tables.specs.Pair.{granuleState, pairAt, frameState, pairOf}
 use Rattle.records.specs.Monitor.{guestOf, withGuest}
 use Rattle.records.specs.Answer.{numbersOf}
 use Rattle.records.specs.State.{State}
@@ -22,6 +23,12 @@ use Rattle.functions.specs.Function.{functionOf}
 use Rattle.functions.specs.Table.{rowOf, actionOf}
 use Rattle.functions.specs.declared.rows.Registers.{Registers}
 use Rattle.guest.specs.Calls.{actOf, hypercallOf, accessOf, abortOf}
+use Rattle.rows.specs.WholeRow.{rowVacant, undamagedFrom, framesFreed, framesNamed}
+use Rattle.host_registers.specs.Registers.{registerNumbered, registerReadOf, registerWriteOf}
+use Rattle.host_donation.specs.Calls.{donateOf}
+use Rattle.host_frames.specs.Calls.{clearedOf, hostAccessOf}
+use Rattle.host_guests.specs.Calls.{freeFrom, createOf, runOf, showOf}
+use Rattle.host_removal.specs.Calls.{removeOf}
 use Rattle.claims.specs.SingleSteps.{RangeCall, numberOf, at, singleStep, singleSteps}
 use Rattle.claims.specs.Step.{Call, step}
 use Rattle.claims.specs.Refusals.{isRefusal}
@@ -29,6 +36,7 @@ use Rattle.claims.specs.Pieces.{registers, callAt, carriedOn, CountsChan
 use Rattle.claims.specs.R1.{TellsChanges}
 use Rattle.claims.specs.Footprint.{Within}
 use Rattle.claims.specs.Cases.{cases, found, expected}
+use Rattle.claims.specs.HostCases.{hostCases, found as foundByHost, expected as expectedByHost}
 use Rattle.claims.proofs.CallAgrees.{call-agrees}
 use Rattle.claims.proofs.Changes.{single-steps-count}
 use Rattle.claims.proofs.Addresses.{calls-fit}
@@ -73,3 +81,8 @@ refusals-change-nothing c s h = step-kept c s h
 pub case-table : map found cases ≡ map expected cases
 unfolding step hypercallOf abortOf actOf accessOf functionOf rowOf actionOf stepFrom changeOf granuleState pairAt mapWordOf frameWordOf mapBits frameBits numbersOf guestOf withGuest framesHold mapHolds
 case-table = refl
+
+-- and cases of the host's calls: each verdict that one can have, in sound and in damaged tables
+pub host-case-table : map foundByHost hostCases ≡ map expectedByHost hostCases
+unfolding step createOf freeFrom donateOf runOf removeOf clearedOf hostAccessOf showOf registerReadOf registerWriteOf registerNumbered rowVacant undamagedFrom framesFreed framesNamed boundsOf frameState pairOf granuleState pairAt mapWordOf frameWordOf mapBits frameBits numbersOf guestOf withGuest framesHold mapHolds
+host-case-table = refl

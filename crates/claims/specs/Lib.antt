@@ -5,3 +5,4 @@ pub mod Pieces
 pub mod R1
 pub mod Footprint
 pub mod Cases
+pub mod HostCases

@@ -1,0 +1,159 @@
+-- Document 01, "Host calls" and "Verdicts": cases of every host call and every verdict that it can have, with all five numbers of each answer.
+use mathlib.Core.Bool.{true, false}
+use mathlib.Core.List.{List, [], _∷_, _++_}
+use Prim.Native.Nat.{ℕ, _-_, _^_}
+use lib.ListN.{replicate}
+use Rattle.records.specs.Monitor.{zeroGuest, newGuest, markRun}
+use Rattle.records.specs.Answer.{verdictWith, numbersOf}
+use Rattle.records.specs.State.{State, state}
+use Rattle.records.specs.declared.guest.Guest.{Guest}
+use Rattle.records.specs.declared.monitor.Monitor.{Monitor}
+use Rattle.records.specs.declared.answer.Numbers.{Numbers}
+use Rattle.claims.specs.Step.{Call, create, donate, run, remove, cleared, access, show, registerRead, registerWrite, step, stateAfter}
+
+-- a record that is not live and not zero
+abbrev pub deadNonZero : Guest
+deadNonZero = record { live = false; run = true; enrolled = true; std = 1; «std_hyp» = 2; «vendor_hyp» = 7 }
+
+-- slot 0 was run, slot 1 was not, the others are dead
+abbrev pub records : Monitor
+records = record { guests = markRun newGuest ∷ newGuest ∷ deadNonZero ∷ replicate 5 zeroGuest }
+
+abbrev pub allLive : Monitor
+allLive = record { guests = replicate 8 newGuest }
+
+-- four frames: private to granule 0 of slot 0; shared, of its granule 1; the host's; waiting
+abbrev pub frames : List ℕ
+frames = 0x01000000 ∷ 0x01010001 ∷ 0 ∷ 0xFF000000 ∷ []
+
+-- eight rows of two granules; granule 0 of slot 1 is guarded
+abbrev pub rows : List ℕ
+rows = 0x40000000 ∷ 0x80000001 ∷ 0xC0000000 ∷ replicate 13 0
+
+abbrev pub sound : State
+sound = state frames rows records
+
+-- granule 0 of slot 0 names frame 2, so it and frame 0 are damaged; slot 2 is dead and its row is not vacant
+abbrev pub damaged : State
+damaged = state frames (0x40000002 ∷ 0x80000001 ∷ 0 ∷ 0 ∷ 0xC0000000 ∷ replicate 11 0) records
+
+-- a frame table of no words; a map table of 15 words
+abbrev pub noFrames : State
+noFrames = state [] rows records
+
+abbrev pub shortMap : State
+shortMap = state frames (replicate 15 0) records
+
+-- a case: the state, the calls before, the call, and the numbers of its answer
+pub data HostCase : Type 0 where
+  hostCase : State → List Call → Call → Numbers → HostCase
+
+abbrev pub found : HostCase → Numbers
+found (hostCase s before c n) = numbersOf (step c (stateAfter before s) .answer)
+
+abbrev pub expected : HostCase → Numbers
+expected (hostCase s before c n) = n
+
+abbrev pub done : ℕ → Numbers
+done a = verdictWith 0 a
+
+abbrev pub refused : ℕ → Numbers
+refused q = verdictWith q 0
+
+-- verdict 9 with −n
+abbrev pub minus : ℕ → Numbers
+minus n = verdictWith 9 (2 ^ 64 - n)
+
+-- create, donate
+abbrev pub creations : List HostCase
+creations =
+    hostCase sound [] create (done 2)
+    -- the dead record's bitmap is not kept
+    ∷ hostCase sound (create ∷ []) (registerRead 2 2) (done 1)
+    ∷ hostCase sound (create ∷ []) create (done 3)
+    ∷ hostCase damaged [] create (refused 6)
+    ∷ hostCase (state frames rows allLive) [] create (refused 7)
+    ∷ hostCase (state [] rows allLive) [] create (refused 1)
+    ∷ hostCase noFrames [] create (refused 1)
+    ∷ hostCase sound [] (donate 1 2 1) (done 0)
+    ∷ hostCase sound (donate 1 2 1 ∷ []) (access 2) (done 0)
+    ∷ hostCase shortMap [] (donate 8 4 2) (refused 1)
+    ∷ hostCase sound [] (donate 8 4 2) (refused 2)
+    ∷ hostCase sound [] (donate 2 2 1) (refused 2)
+    ∷ hostCase sound [] (donate 1 4 1) (refused 4)
+    ∷ hostCase damaged [] (donate 0 0 2) (refused 4)
+    -- frame waiting; frame shared; granule guarded; granule private
+    ∷ hostCase sound [] (donate 1 3 1) (refused 5)
+    ∷ hostCase sound [] (donate 1 1 1) (refused 5)
+    ∷ hostCase sound [] (donate 1 2 0) (refused 5)
+    ∷ hostCase sound [] (donate 0 2 0) (refused 5)
+    -- granule damaged and frame waiting; frame damaged and granule not vacant
+    ∷ hostCase damaged [] (donate 0 3 0) (refused 6)
+    ∷ hostCase damaged [] (donate 0 0 1) (refused 6)
+    ∷ []
+
+-- run, remove
+abbrev pub runs : List HostCase
+runs =
+    hostCase sound [] (run 1) (done 0)
+    ∷ hostCase sound [] (run 0) (done 0)
+    ∷ hostCase sound [] (run 2) (refused 2)
+    ∷ hostCase noFrames [] (run 1) (done 0)
+    -- two frames; a guarded granule is none
+    ∷ hostCase sound [] (remove 0) (done 2)
+    ∷ hostCase sound [] (remove 1) (done 0)
+    ∷ hostCase sound (remove 0 ∷ []) (access 1) (done 0)
+    ∷ hostCase sound (remove 0 ∷ []) create (done 0)
+    ∷ hostCase sound (remove 0 ∷ []) (remove 0) (refused 2)
+    ∷ hostCase damaged [] (remove 0) (refused 6)
+    ∷ hostCase damaged [] (remove 2) (refused 2)
+    ∷ hostCase shortMap [] (remove 0) (refused 1)
+    ∷ []
+
+-- cleared, access, show
+abbrev pub looks : List HostCase
+looks =
+    hostCase sound [] (cleared 3) (done 0)
+    ∷ hostCase sound (cleared 3 ∷ []) (access 3) (done 1)
+    ∷ hostCase sound (cleared 3 ∷ []) (cleared 3) (refused 8)
+    ∷ hostCase sound [] (cleared 0) (refused 8)
+    ∷ hostCase damaged [] (cleared 0) (refused 6)
+    ∷ hostCase damaged [] (cleared 4) (refused 4)
+    ∷ hostCase shortMap [] (cleared 4) (refused 1)
+    ∷ hostCase sound [] (access 0) (done 0)
+    ∷ hostCase sound [] (access 1) (done 1)
+    ∷ hostCase sound [] (access 2) (done 1)
+    ∷ hostCase sound [] (access 3) (done 0)
+    ∷ hostCase damaged [] (access 0) (refused 6)
+    -- a third word that names it does not count
+    ∷ hostCase damaged [] (access 2) (done 1)
+    ∷ hostCase sound [] (access (2 ^ 64 - 1)) (refused 4)
+    ∷ hostCase shortMap [] (access 2) (refused 1)
+    ∷ hostCase sound [] (show 0) (done 0)
+    ∷ hostCase damaged [] (show 0) (done 0)
+    ∷ hostCase noFrames [] (show 0) (done 0)
+    ∷ hostCase sound [] (show 2) (refused 2)
+    ∷ hostCase shortMap [] (show 2) (refused 1)
+    ∷ []
+
+-- firmware registers
+abbrev pub registers : List HostCase
+registers =
+    hostCase noFrames [] (registerRead 1 2) (done 1)
+    ∷ hostCase sound [] (registerRead 1 0) (done 0)
+    ∷ hostCase sound [] (registerRead 1 3) (minus 2)
+    ∷ hostCase sound [] (registerRead 1 (2 ^ 32)) (minus 2)
+    ∷ hostCase sound [] (registerRead 2 3) (refused 2)
+    ∷ hostCase sound [] (registerWrite 1 2 0) (done 0)
+    ∷ hostCase sound (registerWrite 1 2 0 ∷ []) (registerRead 1 2) (done 0)
+    ∷ hostCase sound [] (registerWrite 1 2 2) (minus 22)
+    ∷ hostCase sound [] (registerWrite 1 0 1) (minus 22)
+    -- after run: another register, a bad value, the same value
+    ∷ hostCase sound [] (registerWrite 0 3 1) (minus 2)
+    ∷ hostCase sound [] (registerWrite 0 1 1) (minus 22)
+    ∷ hostCase sound [] (registerWrite 0 2 1) (minus 16)
+    ∷ hostCase sound [] (registerWrite 2 3 1) (refused 2)
+    ∷ []
+
+abbrev pub hostCases : List HostCase
+hostCases = creations ++ (runs ++ (looks ++ registers))
