@@ -1,15 +1,15 @@
 -- Each single step that is taken changes one map word, at a place that no step before it changed, so the steps done are the words that differ.
 use mathlib.Core.Path.{_≡_, refl, sym, ap, _∙_}
 use mathlib.Core.Logic.{_≢_}
-use mathlib.Core.Bool.{Bool, true, false, cond}
-use mathlib.Core.List.{List, [], _∷_}
+use mathlib.Core.Bool.{true, false, cond}
+use mathlib.Core.List.{List}
 use mathlib.Core.Option.{none, some}
-use Prim.Native.Nat.{ℕ, zero, suc, _+_, _<_, _≤_}
+use Prim.Native.Nat.{ℕ, suc, _+_, _<_, _≤_}
 use native.Mathlib.Nat.{zero-add}
 use native.Mathlib.Omega.{arith}
-use borrow.Author.Tests.{eq-eqb, ne-eqb, ltb-true}
-use lib.Dec.{eqb, ltb}
-use lib.ListN.{length, getD, set, length-set}
+use borrow.Author.Tests.{ltb-true}
+use lib.Dec.{ltb}
+use lib.ListN.{length, getD, length-set}
 use lib.Seq.{getD-set-other}
 use Rattle.runs.specs.Run.{took, End, ended, run}
 use Rattle.runs.proofs.Kept.{Holds, kept}
@@ -29,6 +29,7 @@ use Rattle.records.specs.State.{State}
 use Rattle.records.specs.declared.answer.Numbers.{Numbers}
 use Rattle.records.proofs.TestLaws.{through}
 use Rattle.claims.specs.SingleSteps.{RangeCall, share, unshare, rangeGuardMap, rangeGuardUnmap, errorOf, undamaged, kindRight, frameIn, wordMade, changedAt, At, at, singleStep}
+use Rattle.claims.proofs.Differing.{differing-none, differing-set}
 use Rattle.claims.specs.Pieces.{differing, CountsChanges}
 use Rattle.claims.proofs.StepAgrees.{granuleRefusal, granuleStep, pair-inside}
 use Rattle.claims.proofs.BeforeGranules.{callRefusal, step-gated, Passed, call-passed, gated-passed}
@@ -95,23 +96,6 @@ single-took c v r3 b s t e =
           (state-word (s .frames) v g (wordAt (s .map) v g) k (pair-inside (s .frames) (s .map) v g (passes .slot) (h₁ .0)) (undamaged-kind c k (h₃ .0)));
       to = cc;
     }
-
-differing-none : (l : List ℕ) → differing l l ≡ 0
-differing-none [] = refl
-differing-none (x ∷ xs) = rw (eq-eqb x x refl) (differing-none xs)
-
-one-more : (a : Bool) (n : ℕ) → cond a (suc n) (suc (suc n)) ≡ suc (cond a n (suc n))
-one-more true n = refl
-one-more false n = refl
-
--- a word set to another than it was, where nothing differed, is one more that differs
-differing-set : (l m : List ℕ) (i y : ℕ) → length m ≡ length l → i < length m → getD m i 0 ≡ getD l i 0 → getD l i 0 ≢ y
-    → differing l (set m i y) ≡ suc (differing l m)
-differing-set [] m i y hl h e n = absurd (omega arith)
-differing-set (x ∷ xs) [] i y hl h e n = absurd (omega arith)
-differing-set (x ∷ xs) (z ∷ zs) zero y hl h e n = rw (ne-eqb x y n, eq-eqb x z (sym e))
-differing-set (x ∷ xs) (z ∷ zs) (suc i) y hl h e n =
-    rw (differing-set xs zs i y (omega arith) (omega arith) e n) (one-more (eqb x z) (differing xs zs))
 
 -- after k steps of slot v from the state s, before the address b: the words from there on are those of s, and k words differ
 record Sofar (v : ℕ) (s : State) (k b : ℕ) (t : State) : Type 0 where

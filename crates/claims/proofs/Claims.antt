@@ -17,6 +17,7 @@ use Rattle.tables.specs.Pair.{granuleState, pairAt, frameState, pairOf}
 use Rattle.records.specs.Monitor.{guestOf, withGuest}
 use Rattle.records.specs.Answer.{numbersOf}
 use Rattle.records.specs.State.{State}
+use Rattle.records.specs.declared.monitor.Monitor.{Monitor}
 use Rattle.granules.specs.Kind.{changeOf}
 use Rattle.granules.specs.Step.{rangeLimit, stepFrom}
 use Rattle.functions.specs.Function.{functionOf}
@@ -32,9 +33,10 @@ use Rattle.host_removal.specs.Calls.{removeOf}
 use Rattle.claims.specs.SingleSteps.{RangeCall, numberOf, at, singleStep, singleSteps}
 use Rattle.claims.specs.Step.{Call, step}
 use Rattle.claims.specs.Refusals.{isRefusal}
-use Rattle.claims.specs.Pieces.{registers, callAt, carriedOn, CountsChanges, AddressFits}
+use Rattle.claims.specs.Pieces.{registers, callAt, carriedOn, differing, CountsChanges, AddressFits}
 use Rattle.claims.specs.R1.{TellsChanges}
 use Rattle.claims.specs.Footprint.{Within}
+use Rattle.claims.specs.HostCalls.{SevenExactly, RowOrEmpty}
 use Rattle.claims.specs.Cases.{cases, found, expected}
 use Rattle.claims.specs.HostCases.{hostCases, found as foundByHost, expected as expectedByHost}
 use Rattle.claims.proofs.CallAgrees.{call-agrees}
@@ -43,6 +45,9 @@ use Rattle.claims.proofs.Addresses.{calls-fit}
 use Rattle.claims.proofs.R1Laws.{tells-changes}
 use Rattle.claims.proofs.FootprintLaws.{hypercall-within}
 use Rattle.claims.proofs.RefusalLaws.{KeptRefused, step-kept}
+use Rattle.claims.proofs.CreateLaws.{seven-exactly}
+use Rattle.claims.proofs.ShowLaws.{row-or-empty}
+use Rattle.claims.proofs.RemovalCounts.{removal-counts}
 
 -- A range call of slot v: R0 has the number of one of the four calls in its low half, and anything above.
 module _ (c : RangeCall) (r0 : ℕ) (number : r0 % 2 ^ 32 ≡ numberOf c) (v b r3 : ℕ) (s : State) where
@@ -76,6 +81,19 @@ footprint v r s = hypercall-within v r s
 pub refusals-change-nothing : (c : Call) (s : State) → isRefusal (numbersOf (step c s .answer)) ≡ true → step c s .left ≡ s
 unfolding KeptRefused
 refusals-change-nothing c s h = step-kept c s h
+
+-- of create: "Refused with 7 exactly when the lengths hold and all eight are live."
+pub create-refused-with-7 : (s : State) → SevenExactly s
+create-refused-with-7 s = seven-exactly s
+
+-- of show: "the row is handed back ..; a refusal hands back an empty part", and no other answer does
+pub show-row-or-empty : (v : ℕ) (m : Monitor) (map : List ℕ) → RowOrEmpty v m map
+show-row-or-empty v m map = row-or-empty v m map
+
+-- of remove: "v0 is the number of frames": of the frame words that it changed
+pub remove-counts-frames : (v : ℕ) (s : State) → numbersOf (removeOf v s .answer) .verdict ≡ 0
+    → numbersOf (removeOf v s .answer) .v0 ≡ differing (s .frames) (removeOf v s .left .frames)
+remove-counts-frames v s = removal-counts v s
 
 -- "Cases marked * are proved about the rules themselves, together, as one table under one statement"
 pub case-table : map found cases ≡ map expected cases

@@ -3,8 +3,12 @@ pub mod Took
 pub mod StepAgrees
 pub mod BeforeGranules
 pub mod CallAgrees
+pub mod Differing
 pub mod Changes
 pub mod Addresses
 pub mod R1Laws
 pub mod FootprintLaws
 pub mod RefusalLaws
+pub mod CreateLaws
+pub mod ShowLaws
+pub mod RemovalCounts

@@ -5,4 +5,5 @@ pub mod Pieces
 pub mod R1
 pub mod Footprint
 pub mod Cases
+pub mod HostCalls
 pub mod HostCases

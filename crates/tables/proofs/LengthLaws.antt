@@ -28,3 +28,9 @@ in-bounds f m h =
       width-least = leb-true 1 (widthOf m) (width .0);
       width-most = leb-true (widthOf m) 4096 (width .1);
     }
+
+pub width-at-least : (m : ℕ) → mapHolds m ≡ true → 1 ≤ widthOf m
+unfolding mapHolds
+width-at-least m h =
+    let map = both-true (eqb (m % 8) 0) (leb 1 (widthOf m) && leb (widthOf m) 4096) h in
+    leb-true 1 (widthOf m) (both-true (leb 1 (widthOf m)) (leb (widthOf m) 4096) (map .1) .0)

@@ -1,0 +1,26 @@
+-- Document 01, "Host calls": what it says with "exactly" of create, and of the part that show hands back.
+use mathlib.Core.Path.{_≡_}
+use mathlib.Core.Bool.{true}
+use mathlib.Core.List.{List, []}
+use Prim.Native.Nat.{ℕ, _<_, _≤_}
+use lib.ListN.{length}
+use Rattle.tables.specs.Length.{lengthsHold}
+use Rattle.tables.specs.Row.{rowOf}
+use Rattle.records.specs.Monitor.{guestOf}
+use Rattle.records.specs.Answer.{numbersOf}
+use Rattle.records.specs.State.{State}
+use Rattle.records.specs.declared.monitor.Monitor.{Monitor}
+use Rattle.host_guests.specs.Calls.{createOf, showOf}
+
+abbrev pub AllLive : Monitor → Type 0
+AllLive m = (v : ℕ) → v < 8 → guestOf m v .live ≡ true
+
+-- "Refused with 7 exactly when the lengths hold and all eight are live."
+pub record SevenExactly (s : State) : Type 0 where
+  pub only : numbersOf (createOf s .answer) .verdict ≡ 7 → (lengthsHold (length (s .frames)) (length (s .map)) ≡ true) × AllLive (s .monitor)
+  pub always : lengthsHold (length (s .frames)) (length (s .map)) ≡ true → AllLive (s .monitor) → numbersOf (createOf s .answer) .verdict ≡ 7
+
+-- the row of slot v, which is not empty, where the call is done; "a refusal hands back an empty part"
+pub record RowOrEmpty (v : ℕ) (m : Monitor) (map : List ℕ) : Type 0 where
+  pub row : numbersOf (showOf v m map .answer) .verdict ≡ 0 → (showOf v m map .part ≡ rowOf map v) × (1 ≤ length (showOf v m map .part))
+  pub empty : (numbersOf (showOf v m map .answer) .verdict ≡ 0 → ⊥) → showOf v m map .part ≡ []
