@@ -19,7 +19,7 @@ use Rattle.words.specs.declared.map_word.MapWord.the-variants as map-word
 use Rattle.words.proofs.MapWordLaws.{map-encode-decode}
 use Rattle.tables.specs.Length.{widthOf}
 use Rattle.tables.specs.Row.{wordIndex, wordAt}
-use Rattle.tables.specs.Pair.{granuleState, pairAt}
+use Rattle.tables.specs.Pair.{granuleState, pairAt, granuleUndamaged}
 use Rattle.tables.specs.declared.pairs.GranuleState.{GranuleState}
 use Rattle.tables.specs.declared.pairs.GranuleState.the-variants as granule-state
 use Rattle.tables.proofs.RowLaws.{row-inside}
@@ -28,7 +28,7 @@ use Rattle.records.specs.Answer.{verdictWith}
 use Rattle.records.specs.State.{State}
 use Rattle.records.specs.declared.answer.Numbers.{Numbers}
 use Rattle.records.proofs.TestLaws.{through}
-use Rattle.claims.specs.SingleSteps.{RangeCall, share, unshare, rangeGuardMap, rangeGuardUnmap, errorOf, undamaged, kindRight, frameIn, wordMade, changedAt, At, at, singleStep}
+use Rattle.claims.specs.SingleSteps.{RangeCall, share, unshare, rangeGuardMap, rangeGuardUnmap, errorOf, kindRight, frameIn, wordMade, changedAt, At, at, singleStep}
 use Rattle.claims.proofs.Differing.{differing-none, differing-set}
 use Rattle.claims.specs.Pieces.{differing, CountsChanges}
 use Rattle.claims.proofs.StepAgrees.{granuleRefusal, granuleStep, pair-inside}
@@ -83,9 +83,9 @@ single-took c v r3 b s t e =
     let u = gated-passed (granuleRefusal c v (at b s)) (took (at (b + granuleSize) (changedAt c v b s))) t (h .1) in
     let to = u .1 in
     let q₃ = cond (kindRight c k) none (some (errorOf c)) in
-    let q₂ = cond (undamaged k) q₃ (some (verdictWith 6 0)) in
+    let q₂ = cond (granuleUndamaged k) q₃ (some (verdictWith 6 0)) in
     let h₁ = through (ltb g (widthOf (length (s .map)))) q₂ (errorOf c) (u .0) in
-    let h₂ = through (undamaged k) q₃ (verdictWith 6 0) (h₁ .1) in
+    let h₂ = through (granuleUndamaged k) q₃ (verdictWith 6 0) (h₁ .1) in
     let h₃ = through (kindRight c k) none (errorOf c) (h₂ .1) in
     let passes = call-passed c v r3 b s (h .0) in
     record {

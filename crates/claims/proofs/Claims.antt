@@ -33,10 +33,10 @@ use Rattle.host_removal.specs.Calls.{removeOf}
 use Rattle.claims.specs.SingleSteps.{RangeCall, numberOf, at, singleStep, singleSteps}
 use Rattle.claims.specs.Step.{Call, step}
 use Rattle.claims.specs.Refusals.{isRefusal}
-use Rattle.claims.specs.Pieces.{registers, callAt, carriedOn, differing, CountsChanges, AddressFits}
+use Rattle.claims.specs.Pieces.{registers, callAt, carriedOn, CountsChanges, AddressFits}
 use Rattle.claims.specs.R1.{TellsChanges}
 use Rattle.claims.specs.Footprint.{Within}
-use Rattle.claims.specs.HostCalls.{SevenExactly, RowOrEmpty}
+use Rattle.claims.specs.HostCalls.{SevenExactly, RowOrEmpty, CountsFrames}
 use Rattle.claims.specs.Cases.{cases, found, expected}
 use Rattle.claims.specs.HostCases.{hostCases, found as foundByHost, expected as expectedByHost}
 use Rattle.claims.proofs.CallAgrees.{call-agrees}
@@ -90,9 +90,8 @@ create-refused-with-7 s = seven-exactly s
 pub show-row-or-empty : (v : ℕ) (m : Monitor) (map : List ℕ) → RowOrEmpty v m map
 show-row-or-empty v m map = row-or-empty v m map
 
--- of remove: "v0 is the number of frames": of the frame words that it changed
-pub remove-counts-frames : (v : ℕ) (s : State) → numbersOf (removeOf v s .answer) .verdict ≡ 0
-    → numbersOf (removeOf v s .answer) .v0 ≡ differing (s .frames) (removeOf v s .left .frames)
+-- of remove: "v0 is the number of frames"
+pub remove-counts-frames : (v : ℕ) (s : State) → CountsFrames s (removeOf v s)
 remove-counts-frames v s = removal-counts v s
 
 -- "Cases marked * are proved about the rules themselves, together, as one table under one statement"

@@ -30,6 +30,7 @@ use Rattle.records.specs.declared.answer.Answer.the-variants.{BadLength, NoGues
 use Rattle.rows.specs.WholeRow.{undamagedFrom, rowUndamaged, frameFreed, framesFreed, frameNamed, framesNamed}
 use Rattle.host_removal.specs.Calls.{removed, removeOf}
 use Rattle.claims.specs.Pieces.{differing}
+use Rattle.claims.specs.HostCalls.{CountsFrames}
 use Rattle.claims.proofs.Differing.{differing-none, differing-set}
 
 named-back : (b s : Bool) (f : ℕ) → granuleUndamaged (cond b (granule-state.Frame s f) granule-state.Damaged) ≡ true → b ≡ true
@@ -106,23 +107,18 @@ module _ (first : List ℕ) (v : ℕ) where
       (row-freed ws 0 0 first u (record { lengths = refl; ahead = λ f h s b o. refl; count = differing-none first })
       ∙ zero-add (framesNamed ws))
 
--- where the answer's verdict is 0, v0 is the number of frame words that differ from those of s
-Counted : State → Answered → Type 0
-Counted s r = numbersOf (r .answer) .verdict ≡ 0 → numbersOf (r .answer) .v0 ≡ differing (s .frames) (r .left .frames)
-
 -- of the three refusals none has verdict 0
-unless-counted : (a b c : Bool) (s : State) (done : Answered) → (c ≡ true → Counted s done)
-    → Counted s (unlessRefused (firstRefusal ((a, BadLength) ∷ (b, NoGuest) ∷ (c, Damaged) ∷ [])) s done)
-unfolding Counted numbersOf
+unless-counted : (a b c : Bool) (s : State) (done : Answered) → (c ≡ true → CountsFrames s done)
+    → CountsFrames s (unlessRefused (firstRefusal ((a, BadLength) ∷ (b, NoGuest) ∷ (c, Damaged) ∷ [])) s done)
+unfolding numbersOf
 unless-counted true true true s done k = k refl
 unless-counted true true false s done k = λ h. absurd (omega arith)
 unless-counted true false c s done k = λ h. absurd (omega arith)
 unless-counted false b c s done k = λ h. absurd (omega arith)
 
 -- a removal that is done tells in v0 how many frame words it changed
-pub removal-counts : (v : ℕ) (s : State) → numbersOf (removeOf v s .answer) .verdict ≡ 0
-    → numbersOf (removeOf v s .answer) .v0 ≡ differing (s .frames) (removeOf v s .left .frames)
-unfolding Counted removeOf numbersOf
+pub removal-counts : (v : ℕ) (s : State) → CountsFrames s (removeOf v s)
+unfolding removeOf numbersOf
 removal-counts v s =
     let row = rowOf (s .map) v in
     unless-counted (lengthsHold (length (s .frames)) (length (s .map))) (guestOf (s .monitor) v .live) (rowUndamaged (s .frames) v row) s (removed v s)

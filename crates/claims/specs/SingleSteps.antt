@@ -8,7 +8,7 @@ use Rattle.runs.specs.Run.{Step, took, End, gated, run}
 use Rattle.words.specs.Granule.{granuleSize, granuleOf, isBase}
 use Rattle.tables.specs.Length.{widthOf, lengthsHold}
 use Rattle.tables.specs.Row.{wordIndex}
-use Rattle.tables.specs.Pair.{pairAt}
+use Rattle.tables.specs.Pair.{pairAt, granuleUndamaged}
 use Rattle.tables.specs.declared.pairs.GranuleState.{GranuleState}
 use Rattle.tables.specs.declared.pairs.GranuleState.the-variants as granule-state
 use Rattle.records.specs.Monitor.{guestOf}
@@ -52,13 +52,6 @@ enrolmentRight unshare g = true
 enrolmentRight rangeGuardMap g = g .enrolled
 enrolmentRight rangeGuardUnmap g = g .enrolled
 
--- "verdict 6 for this granule with its frame"
-abbrev pub undamaged : GranuleState → Bool
-undamaged granule-state.Vacant = true
-undamaged (granule-state.Frame s f) = true
-undamaged granule-state.Guarded = true
-undamaged granule-state.Damaged = false
-
 -- "the kind that the call needs": private, shared, vacant, guarded
 abbrev pub kindRight : RangeCall → GranuleState → Bool
 kindRight c granule-state.Damaged = false
@@ -88,7 +81,7 @@ callTests c v r3 b s =
 
 -- then "the granule below W; verdict 6 for this granule with its frame; the kind that the call needs", of a granule in the state k
 abbrev pub granuleTests : RangeCall → Bool → GranuleState → Tests Numbers
-granuleTests c below k = (below, errorOf c) ∷ (undamaged k, verdictWith 6 0) ∷ (kindRight c k, errorOf c) ∷ []
+granuleTests c below k = (below, errorOf c) ∷ (granuleUndamaged k, verdictWith 6 0) ∷ (kindRight c k, errorOf c) ∷ []
 
 abbrev pub stepTests : RangeCall → ℕ → ℕ → ℕ → State → Tests Numbers
 stepTests c v r3 b s =
