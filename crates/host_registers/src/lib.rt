@@ -5,4 +5,3 @@ mod registers;
 
 pub use access::register_read;
 pub use access::register_write;
-pub use registers::FirmwareRegister;

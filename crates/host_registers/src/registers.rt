@@ -12,7 +12,7 @@ pub enum FirmwareRegister {
 }
 
 impl FirmwareRegister {
-    pub fn of(number: u64) -> FirmwareRegister
+    pub(crate) fn of(number: u64) -> FirmwareRegister
         ensures { λ r. ⌜ r ≡ registerNumbered number ⌝ }
     {
         match number {
