@@ -46,6 +46,7 @@ use Rattle.claims.proofs.R1Laws.{tells-changes}
 use Rattle.claims.proofs.FootprintLaws.{hypercall-within}
 use Rattle.claims.proofs.RefusalLaws.{KeptRefused, step-kept}
 use Rattle.claims.proofs.CreateLaws.{seven-exactly}
+use Rattle.claims.proofs.RunLaws.{run-twice}
 use Rattle.claims.proofs.ShowLaws.{row-or-empty}
 use Rattle.claims.proofs.RemovalCounts.{removal-counts}
 
@@ -85,6 +86,10 @@ refusals-change-nothing c s h = step-kept c s h
 -- of create: "Refused with 7 exactly when the lengths hold and all eight are live."
 pub create-refused-with-7 : (s : State) → SevenExactly s
 create-refused-with-7 s = seven-exactly s
+
+-- of run: "again changes nothing"
+pub run-again-changes-nothing : (v : ℕ) (s : State) → runOf v (runOf v s .left) .left ≡ runOf v s .left
+run-again-changes-nothing v s = run-twice v s
 
 -- of show: "the row is handed back ..; a refusal hands back an empty part", and no other answer does
 pub show-row-or-empty : (v : ℕ) (m : Monitor) (map : List ℕ) → RowOrEmpty v m map

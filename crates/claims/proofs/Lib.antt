@@ -12,3 +12,4 @@ pub mod RefusalLaws
 pub mod CreateLaws
 pub mod ShowLaws
 pub mod RemovalCounts
+pub mod RunLaws

@@ -34,8 +34,8 @@ frameHosts frame-state.Waiting = false
 frameHosts (frame-state.Owned v s g) = false
 frameHosts frame-state.Damaged = false
 
--- donate frame f to granule g of slot v, whose record is `guest`: lengths (1), slot (2), frame and granule in range (4), "the granule's and
--- the frame's words, each with its partner" (6), "frame not the host's, or granule not vacant" (5)
+-- donate frame f to granule g of slot v, whose record is `guest` (a slot above 7 has the record of no guest): lengths (1), slot (2), frame
+-- and granule in range (4), "the granule's and the frame's words, each with its partner" (6), "frame not the host's, or granule not vacant" (5)
 abbrev pub donateTests : List ℕ → List ℕ → ℕ → ℕ → ℕ → Guest → Tests Answer
 donateTests frames map v f g guest =
     (lengthsHold (length frames) (length map), BadLength)

@@ -44,7 +44,7 @@ createOf s =
     let v = freeSlot (s .monitor) in
     unlessRefused (firstRefusal (createTests (s .frames) (s .map) v)) s (created v s)
 
--- run: slot (2)
+-- run: slot (2); a slot above 7 has the record of no guest, which is not live
 abbrev pub runTests : Guest → Tests Answer
 runTests guest = (guest .live, NoGuest) ∷ []
 

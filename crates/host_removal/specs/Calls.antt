@@ -12,7 +12,7 @@ use Rattle.records.specs.declared.answer.Answer.{Answer}
 use Rattle.records.specs.declared.answer.Answer.the-variants.{Done, BadLength, NoGuest, Damaged}
 use Rattle.rows.specs.WholeRow.{rowUndamaged, vacantRow, framesFreed, framesNamed}
 
--- remove slot v, whose record is `guest`: lengths (1), slot (2), "the row and its frames" (6)
+-- remove slot v, whose record is `guest` (a slot above 7 has the record of no guest): lengths (1), slot (2), "the row and its frames" (6)
 abbrev pub removeTests : List ℕ → List ℕ → ℕ → Guest → Tests Answer
 removeTests frames map v guest =
     (lengthsHold (length frames) (length map), BadLength)

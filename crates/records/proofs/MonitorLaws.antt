@@ -6,8 +6,8 @@ use Prim.Native.Nat.{ℕ, _<_}
 use native.Mathlib.Decide.{decLt}
 use native.Mathlib.Omega.{arith}
 use borrow.Author.Tests.{lt-ltb, le-ltb}
-use lib.ListN.{length, length-set, getD-replicate}
-use lib.Seq.{getD-set-same, getD-set-other}
+use lib.ListN.{length, length-set, getD-replicate, List·getD-eq-default}
+use lib.Seq.{getD-set-same, getD-set-other, set-set}
 use Rattle.records.specs.Monitor.{zeroGuest, fresh, guestOf, withGuest}
 use Rattle.records.specs.declared.guest.Guest.{Guest}
 use Rattle.records.specs.declared.monitor.Monitor.{Monitor}
@@ -48,3 +48,26 @@ live-slot m v e = go (decLt v 8)
     go : Dec (v < 8) → v < 8
     go (yes h) = h
     go (no h) = let dead : guestOf m v .live ≡ false = rw (le-ltb v 8 (omega arith)) in let z : _≡_ {A = ℕ} 0 1 = cc in absurd (omega arith)
+
+-- a record put in where a guest is live is read there, for any number of records
+pub guest-put-live : (m : Monitor) (v : ℕ) (g : Guest) → guestOf m v .live ≡ true → guestOf (withGuest m v g) v ≡ g
+unfolding guestOf withGuest
+guest-put-live m v g e = go (decLt v (length (m .guests)))
+  where
+    slot : v < 8
+    slot = live-slot m v e
+
+    go : Dec (v < length (m .guests)) → guestOf (withGuest m v g) v ≡ g
+    go (yes h) = rw (lt-ltb v 8 slot) (getD-set-same (m .guests) v g zeroGuest h)
+    go (no h) =
+        let dead : guestOf m v .live ≡ false = rw (lt-ltb v 8 slot, List·getD-eq-default (m .guests) zeroGuest {n = v} (omega arith)) in
+        let z : _≡_ {A = ℕ} 0 1 = cc in
+        absurd (omega arith)
+
+pub put-again : (m : Monitor) (v : ℕ) (a b : Guest) → withGuest (withGuest m v a) v b ≡ withGuest m v b
+unfolding withGuest
+put-again m v a b = go (decLt v 8)
+  where
+    go : Dec (v < 8) → withGuest (withGuest m v a) v b ≡ withGuest m v b
+    go (yes h) = rw (lt-ltb v 8 h, set-set (m .guests) v a b)
+    go (no h) = rw (le-ltb v 8 (omega arith))

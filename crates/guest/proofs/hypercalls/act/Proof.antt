@@ -1,7 +1,7 @@
+-- By the action.
 use native.Mathlib.Omega.{arith}
 use Prim.Native.Nat.{_<_, _^_}
 use Rattle.words.proofs.RegisterLaws.{zero-extended}
--- By the action.
 use Rattle.guest.specs.Calls.{actOf}
 use borrow.Author.Needs.{needs}
 use Rattle.guest.proofs.hypercalls.act.Statement.{statement}

@@ -1,8 +1,8 @@
+-- By whether a granule was done, then by how it ended.
 use Rattle.guest.proofs.CallLaws.{some-done}
 use native.Mathlib.Omega.{arith}
 use Prim.Native.Nat.{ℕ}
 use mathlib.Core.Path.{_≡_}
--- By whether a granule was done, then by how it ended.
 use borrow.Author.Needs.{needs}
 use Rattle.guest.proofs.work.answer_of.Statement.{statement}
 use Rattle.guest.proofs.work.answer_of.Tie as tie

@@ -1,6 +1,6 @@
+-- The row is within the table, and the range over it is one over the table.
 use Rattle.granules.specs.Step.{rangeLimit}
 use Prim.Native.Nat.{min}
--- The row is within the table, and the range over it is one over the table.
 use Rattle.granules.proofs.Lent.{lent}
 use Rattle.tables.proofs.RowLaws.{in-order}
 use native.Mathlib.Omega.{arith}

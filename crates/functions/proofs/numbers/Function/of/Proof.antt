@@ -1,6 +1,6 @@
+-- A number of the table is compared with those before it; one of a range is none of the twelve.
 use Rattle.functions.specs.declared.numbers.Function.the-variants.{Unknown}
 use mathlib.Core.Path.{_≡_}
--- A number of the table is compared with those before it; one of a range is none of the twelve.
 use Rattle.functions.proofs.FunctionLaws.{unknown}
 use Rattle.functions.specs.Function.{functionOf}
 use Rattle.functions.proofs.numbers.Function.of.Statement.{statement}
