@@ -7,7 +7,7 @@ use native.Mathlib.Omega.{arith}
 use lib.ListN.{length}
 use Rattle.tables.specs.Length.{mapHolds}
 use Rattle.tables.specs.Row.{rowOf}
-use Rattle.tables.proofs.LengthLaws.{width-at-least}
+use Rattle.tables.proofs.LengthLaws.{width-between}
 use Rattle.tables.proofs.RowLaws.{row-length}
 use Rattle.records.specs.Monitor.{guestOf}
 use Rattle.records.specs.Answer.{numbersOf}
@@ -33,7 +33,7 @@ row-or-empty v m map =
     record {
       row = λ h.
           let q = p .0 h in
-          let long : 1 ≤ length (rowOf map v) = omega (arith, row-length map v (live-slot m v (q .1)), width-at-least (length map) (q .0)) in
+          let long : 1 ≤ length (rowOf map v) = omega (arith, row-length map v (live-slot m v (q .1)), width-between (length map) (q .0)) in
           (q .2, rw (q .2) long);
       empty = p .1;
     }

@@ -10,9 +10,10 @@ use Rattle.words.specs.MapWord.{mapBits}
 use Rattle.words.specs.FrameWord.{frameBits}
 use Rattle.words.specs.declared.map_word.MapWord.the-variants as map-word
 use Rattle.words.specs.declared.frame_word.FrameWord.the-variants as frame-word
-use Rattle.tables.specs.Length.{widthOf}
+use Rattle.words.proofs.Booleans.{both-true}
+use Rattle.tables.specs.Length.{framesHold, widthOf, mapHolds}
 use Rattle.tables.specs.Row.{wordIndex}
-use Rattle.tables.proofs.LengthLaws.{in-bounds}
+use Rattle.tables.proofs.LengthLaws.{frames-at-most, width-between}
 use Rattle.records.specs.Monitor.{guestOf}
 use Rattle.records.specs.State.{State, state, answered}
 use Rattle.records.specs.Tests.{firstRefusal, refusalBy}
@@ -52,13 +53,13 @@ module _ (v f g : ℕ) (s : State) (guest : Guest) (e : guest ≡ guestOf (s .mo
   pub donate-in-range : x ≡ Passed → InRange (s .frames) (s .map) v f g
   donate-in-range p =
       let passes = all-pass (donateTests (s .frames) (s .map) v f g guest) (rw (← t, p)) in
-      let bounds = in-bounds (length (s .frames)) (length (s .map)) (passes .0) in
+      let lengths = both-true (framesHold (length (s .frames))) (mapHolds (length (s .map))) (passes .0) in
       let frame = ltb-true f (length (s .frames)) (passes .1 .1 .0) in
       let granule = ltb-true g (widthOf (length (s .map))) (passes .1 .1 .1 .0) in
       record {
         slot = live-slot (s .monitor) v (rw e at (passes .1 .0));
         frame = frame;
         granule = granule;
-        frame-fits = omega (arith, frame, bounds .frames-most);
-        granule-fits = omega (arith, granule, bounds .width-most);
+        frame-fits = omega (arith, frame, frames-at-most (length (s .frames)) (lengths .0));
+        granule-fits = omega (arith, granule, width-between (length (s .map)) (lengths .1));
       }

@@ -12,9 +12,9 @@ use Rattle.records.specs.Monitor.{zeroGuest, fresh, guestOf, withGuest}
 use Rattle.records.specs.declared.guest.Guest.{Guest}
 use Rattle.records.specs.declared.monitor.Monitor.{Monitor}
 
-pub guest-put : (m : Monitor) (v : ℕ) (g : Guest) → length (m .guests) ≡ 8 → v < 8 → guestOf (withGuest m v g) v ≡ g
+pub guest-put : (m : Monitor) (v : ℕ) (g : Guest) → v < 8 → v < length (m .guests) → guestOf (withGuest m v g) v ≡ g
 unfolding guestOf withGuest
-guest-put m v g e h = let l : v < length (m .guests) = omega arith in rw (lt-ltb v 8 h) (getD-set-same (m .guests) v g zeroGuest l)
+guest-put m v g h l = rw (lt-ltb v 8 h) (getD-set-same (m .guests) v g zeroGuest l)
 
 pub guest-other : (m : Monitor) (v u : ℕ) (g : Guest) → u ≢ v → guestOf (withGuest m v g) u ≡ guestOf m u
 unfolding guestOf withGuest
@@ -51,14 +51,14 @@ live-slot m v e = go (decLt v 8)
 
 -- a record put in where a guest is live is read there, for any number of records
 pub guest-put-live : (m : Monitor) (v : ℕ) (g : Guest) → guestOf m v .live ≡ true → guestOf (withGuest m v g) v ≡ g
-unfolding guestOf withGuest
+unfolding guestOf
 guest-put-live m v g e = go (decLt v (length (m .guests)))
   where
     slot : v < 8
     slot = live-slot m v e
 
     go : Dec (v < length (m .guests)) → guestOf (withGuest m v g) v ≡ g
-    go (yes h) = rw (lt-ltb v 8 slot) (getD-set-same (m .guests) v g zeroGuest h)
+    go (yes h) = guest-put m v g slot h
     go (no h) =
         let dead : guestOf m v .live ≡ false = rw (lt-ltb v 8 slot, List·getD-eq-default (m .guests) zeroGuest {n = v} (omega arith)) in
         let z : _≡_ {A = ℕ} 0 1 = cc in
