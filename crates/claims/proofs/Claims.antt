@@ -30,8 +30,9 @@ use Rattle.host_donation.specs.Calls.{donateOf}
 use Rattle.host_frames.specs.Calls.{clearedOf, hostAccessOf}
 use Rattle.host_guests.specs.Calls.{freeFrom, createOf, runOf, showOf}
 use Rattle.host_removal.specs.Calls.{removeOf}
+use Rattle.calls.specs.Step.{step}
+use Rattle.calls.specs.declared.call.Call.{Call}
 use Rattle.claims.specs.SingleSteps.{RangeCall, numberOf, at, singleStep, singleSteps}
-use Rattle.claims.specs.Step.{Call, step}
 use Rattle.claims.specs.Refusals.{isRefusal}
 use Rattle.claims.specs.Pieces.{registers, callAt, carriedOn, CountsChanges, AddressFits}
 use Rattle.claims.specs.R1.{TellsChanges}

@@ -6,7 +6,7 @@ use Prim.Native.Nat.{ℕ, zero, suc, min}
 use native.Mathlib.Omega.{arith}
 use lib.IntN.{pos}
 use lib.ListN.{length}
-use Rattle.runs.specs.Run.{End, ended, run as runSteps}
+use Rattle.runs.specs.Run.{End, ended, run}
 use Rattle.runs.proofs.Runs.{StandsAt, run-none}
 use Rattle.words.specs.Granule.{granuleOf}
 use Rattle.records.specs.Answer.{numbersOf}
@@ -28,7 +28,9 @@ use Rattle.host_donation.specs.Calls.{donateTests, donated, donateOf}
 use Rattle.host_frames.specs.Calls.{accessTests, clearedTests, handedBack, clearedOf, accessTold, hostAccessOf}
 use Rattle.host_guests.specs.Calls.{freeSlot, createTests, created, createOf, runTests, ran, runOf}
 use Rattle.host_removal.specs.Calls.{removeTests, removed, removeOf}
-use Rattle.claims.specs.Step.{Call, create, donate, run, remove, cleared, access, show, registerRead, registerWrite, hypercall, abort, step}
+use Rattle.calls.specs.Step.{step}
+use Rattle.calls.specs.declared.call.Call.{Call}
+use Rattle.calls.specs.declared.call.Call.the-variants.{Create, Donate, Run, Remove, Cleared, Access, Show, RegisterRead, RegisterWrite, Hypercall, Abort}
 use Rattle.claims.specs.Refusals.{isRefusal}
 
 -- where the answer is a refusal, the state is s
@@ -73,7 +75,7 @@ act-kept v b e action.Enroll s = zero-kept s _
 act-kept v b e (action.Change o n tells) s =
     let steps = min rangeLimit n in
     let start = place (s .map) (s .frames) (granuleOf b) in
-    range-kept s (granuleOf b) e tells (runSteps (tableStep o v) steps start) (run-none (tableStep o v) steps start)
+    range-kept s (granuleOf b) e tells (run (tableStep o v) steps start) (run-none (tableStep o v) steps start)
 
 hypercall-kept : (v : ℕ) (r : Registers) (s : State) → KeptRefused s (hypercallOf v r s)
 unfolding hypercallOf
@@ -95,19 +97,19 @@ abort-kept v a s =
 
 pub step-kept : (c : Call) (s : State) → KeptRefused s (step c s)
 unfolding step createOf donateOf runOf removeOf clearedOf hostAccessOf registerReadOf registerWriteOf
-step-kept create s =
+step-kept Create s =
     let v = freeSlot (s .monitor) in
     tests-kept (firstRefusal (createTests (s .frames) (s .map) v)) s (created v s) (done-kept s _ _)
-step-kept (donate v f g) s =
+step-kept (Donate v f g) s =
     tests-kept (firstRefusal (donateTests (s .frames) (s .map) v f g (guestOf (s .monitor) v))) s (donated v f g s) (done-kept s _ _)
-step-kept (run v) s = tests-kept (firstRefusal (runTests (guestOf (s .monitor) v))) s (ran v s) (done-kept s _ _)
-step-kept (remove v) s = tests-kept (firstRefusal (removeTests (s .frames) (s .map) v (guestOf (s .monitor) v))) s (removed v s) (done-kept s _ _)
-step-kept (cleared f) s = tests-kept (firstRefusal (clearedTests (s .frames) (s .map) f)) s (handedBack f s) (done-kept s _ _)
-step-kept (access f) s = tests-kept (firstRefusal (accessTests (s .frames) (s .map) f)) s (accessTold f s) (same-kept s _)
-step-kept (show v) s = same-kept s _
-step-kept (registerRead v n) s =
+step-kept (Run v) s = tests-kept (firstRefusal (runTests (guestOf (s .monitor) v))) s (ran v s) (done-kept s _ _)
+step-kept (Remove v) s = tests-kept (firstRefusal (removeTests (s .frames) (s .map) v (guestOf (s .monitor) v))) s (removed v s) (done-kept s _ _)
+step-kept (Cleared f) s = tests-kept (firstRefusal (clearedTests (s .frames) (s .map) f)) s (handedBack f s) (done-kept s _ _)
+step-kept (Access f) s = tests-kept (firstRefusal (accessTests (s .frames) (s .map) f)) s (accessTold f s) (same-kept s _)
+step-kept (Show v) s = same-kept s _
+step-kept (RegisterRead v n) s =
     tests-kept (firstRefusal (readTests (guestOf (s .monitor) v) (registerNumbered n))) s (bitmapTold v n s) (same-kept s _)
-step-kept (registerWrite v n x) s =
+step-kept (RegisterWrite v n x) s =
     tests-kept (firstRefusal (writeTests (guestOf (s .monitor) v) (registerNumbered n) x)) s (bitmapWritten v n x s) (done-kept s _ _)
-step-kept (hypercall v r) s = hypercall-kept v r s
-step-kept (abort v a) s = abort-kept v a s
+step-kept (Hypercall v r) s = hypercall-kept v r s
+step-kept (Abort v a) s = abort-kept v a s

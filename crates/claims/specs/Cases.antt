@@ -8,8 +8,10 @@ use Rattle.records.specs.Answer.{numbers, verdictWith, numbersOf}
 use Rattle.records.specs.State.{State, state}
 use Rattle.records.specs.declared.guest.Guest.{Guest}
 use Rattle.records.specs.declared.answer.Numbers.{Numbers}
+use Rattle.calls.specs.Step.{step, stateAfter}
+use Rattle.calls.specs.declared.call.Call.{Call}
+use Rattle.calls.specs.declared.call.Call.the-variants.{Hypercall, Abort}
 use Rattle.claims.specs.Pieces.{registers}
-use Rattle.claims.specs.Step.{Call, hypercall, abort, step, stateAfter}
 
 -- "Slot 0, F = 256, W = 64, run", granule g private (the frame is 3), the others vacant
 abbrev pub caller : Guest
@@ -37,7 +39,7 @@ minus n = verdictWith 10 (2 ^ 64 - n)
 
 -- calls of slot 0
 abbrev pub hypercall0 : ℕ → ℕ → ℕ → ℕ → Call
-hypercall0 a b c d = hypercall 0 (registers a b c d)
+hypercall0 a b c d = Hypercall 0 (registers a b c d)
 
 abbrev pub share : ℕ → ℕ → Call
 share b n = hypercall0 0xC6000003 b n 0
@@ -59,6 +61,6 @@ cases =
     ∷ case 5 [] (hypercall0 0xC600000C 0 0 0) (minus 1)
     ∷ case 5 (enroll ∷ []) (hypercall0 0xC600000A 0x7000 0 0) (minus 1)
     ∷ case 5 (enroll ∷ []) (hypercall0 0xC6000007 0x5000 0 0) (minus 1)
-    ∷ case 5 [] (abort 0 0x6000) (verdictWith 11 0x6000)
-    ∷ case 5 (enroll ∷ []) (abort 0 0x6000) (verdictWith 12 0)
+    ∷ case 5 [] (Abort 0 0x6000) (verdictWith 11 0x6000)
+    ∷ case 5 (enroll ∷ []) (Abort 0 0x6000) (verdictWith 12 0)
     ∷ []

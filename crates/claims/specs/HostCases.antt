@@ -9,7 +9,9 @@ use Rattle.records.specs.State.{State, state}
 use Rattle.records.specs.declared.guest.Guest.{Guest}
 use Rattle.records.specs.declared.monitor.Monitor.{Monitor}
 use Rattle.records.specs.declared.answer.Numbers.{Numbers}
-use Rattle.claims.specs.Step.{Call, create, donate, run, remove, cleared, access, show, registerRead, registerWrite, step, stateAfter}
+use Rattle.calls.specs.Step.{step, stateAfter}
+use Rattle.calls.specs.declared.call.Call.{Call}
+use Rattle.calls.specs.declared.call.Call.the-variants.{Create, Donate, Run, Remove, Cleared, Access, Show, RegisterRead, RegisterWrite}
 
 -- a record that is not live and not zero
 abbrev pub deadNonZero : Guest
@@ -67,92 +69,92 @@ minus n = verdictWith 9 (2 ^ 64 - n)
 -- create, donate
 abbrev pub creations : List HostCase
 creations =
-    hostCase sound [] create (done 2)
+    hostCase sound [] Create (done 2)
     -- the dead record's bitmap is not kept
-    ∷ hostCase sound (create ∷ []) (registerRead 2 2) (done 1)
-    ∷ hostCase sound (create ∷ []) create (done 3)
-    ∷ hostCase damaged [] create (refused 6)
-    ∷ hostCase (state frames rows allLive) [] create (refused 7)
-    ∷ hostCase (state [] rows allLive) [] create (refused 1)
-    ∷ hostCase noFrames [] create (refused 1)
-    ∷ hostCase sound [] (donate 1 2 1) (done 0)
-    ∷ hostCase sound (donate 1 2 1 ∷ []) (access 2) (done 0)
-    ∷ hostCase shortMap [] (donate 8 4 2) (refused 1)
-    ∷ hostCase sound [] (donate 8 4 2) (refused 2)
-    ∷ hostCase sound [] (donate 2 2 1) (refused 2)
-    ∷ hostCase sound [] (donate 1 4 1) (refused 4)
-    ∷ hostCase damaged [] (donate 0 0 2) (refused 4)
+    ∷ hostCase sound (Create ∷ []) (RegisterRead 2 2) (done 1)
+    ∷ hostCase sound (Create ∷ []) Create (done 3)
+    ∷ hostCase damaged [] Create (refused 6)
+    ∷ hostCase (state frames rows allLive) [] Create (refused 7)
+    ∷ hostCase (state [] rows allLive) [] Create (refused 1)
+    ∷ hostCase noFrames [] Create (refused 1)
+    ∷ hostCase sound [] (Donate 1 2 1) (done 0)
+    ∷ hostCase sound (Donate 1 2 1 ∷ []) (Access 2) (done 0)
+    ∷ hostCase shortMap [] (Donate 8 4 2) (refused 1)
+    ∷ hostCase sound [] (Donate 8 4 2) (refused 2)
+    ∷ hostCase sound [] (Donate 2 2 1) (refused 2)
+    ∷ hostCase sound [] (Donate 1 4 1) (refused 4)
+    ∷ hostCase damaged [] (Donate 0 0 2) (refused 4)
     -- frame waiting; frame shared; granule guarded; granule private
-    ∷ hostCase sound [] (donate 1 3 1) (refused 5)
-    ∷ hostCase sound [] (donate 1 1 1) (refused 5)
-    ∷ hostCase sound [] (donate 1 2 0) (refused 5)
-    ∷ hostCase sound [] (donate 0 2 0) (refused 5)
+    ∷ hostCase sound [] (Donate 1 3 1) (refused 5)
+    ∷ hostCase sound [] (Donate 1 1 1) (refused 5)
+    ∷ hostCase sound [] (Donate 1 2 0) (refused 5)
+    ∷ hostCase sound [] (Donate 0 2 0) (refused 5)
     -- granule damaged and frame waiting; frame damaged and granule not vacant
-    ∷ hostCase damaged [] (donate 0 3 0) (refused 6)
-    ∷ hostCase damaged [] (donate 0 0 1) (refused 6)
+    ∷ hostCase damaged [] (Donate 0 3 0) (refused 6)
+    ∷ hostCase damaged [] (Donate 0 0 1) (refused 6)
     ∷ []
 
 -- run, remove
 abbrev pub runs : List HostCase
 runs =
-    hostCase sound [] (run 1) (done 0)
-    ∷ hostCase sound [] (run 0) (done 0)
-    ∷ hostCase sound [] (run 2) (refused 2)
-    ∷ hostCase noFrames [] (run 1) (done 0)
+    hostCase sound [] (Run 1) (done 0)
+    ∷ hostCase sound [] (Run 0) (done 0)
+    ∷ hostCase sound [] (Run 2) (refused 2)
+    ∷ hostCase noFrames [] (Run 1) (done 0)
     -- two frames; a guarded granule is none
-    ∷ hostCase sound [] (remove 0) (done 2)
-    ∷ hostCase sound [] (remove 1) (done 0)
-    ∷ hostCase sound (remove 0 ∷ []) (access 1) (done 0)
-    ∷ hostCase sound (remove 0 ∷ []) create (done 0)
-    ∷ hostCase sound (remove 0 ∷ []) (remove 0) (refused 2)
-    ∷ hostCase damaged [] (remove 0) (refused 6)
-    ∷ hostCase damaged [] (remove 2) (refused 2)
-    ∷ hostCase shortMap [] (remove 0) (refused 1)
+    ∷ hostCase sound [] (Remove 0) (done 2)
+    ∷ hostCase sound [] (Remove 1) (done 0)
+    ∷ hostCase sound (Remove 0 ∷ []) (Access 1) (done 0)
+    ∷ hostCase sound (Remove 0 ∷ []) Create (done 0)
+    ∷ hostCase sound (Remove 0 ∷ []) (Remove 0) (refused 2)
+    ∷ hostCase damaged [] (Remove 0) (refused 6)
+    ∷ hostCase damaged [] (Remove 2) (refused 2)
+    ∷ hostCase shortMap [] (Remove 0) (refused 1)
     ∷ []
 
 -- cleared, access, show
 abbrev pub looks : List HostCase
 looks =
-    hostCase sound [] (cleared 3) (done 0)
-    ∷ hostCase sound (cleared 3 ∷ []) (access 3) (done 1)
-    ∷ hostCase sound (cleared 3 ∷ []) (cleared 3) (refused 8)
-    ∷ hostCase sound [] (cleared 0) (refused 8)
-    ∷ hostCase damaged [] (cleared 0) (refused 6)
-    ∷ hostCase damaged [] (cleared 4) (refused 4)
-    ∷ hostCase shortMap [] (cleared 4) (refused 1)
-    ∷ hostCase sound [] (access 0) (done 0)
-    ∷ hostCase sound [] (access 1) (done 1)
-    ∷ hostCase sound [] (access 2) (done 1)
-    ∷ hostCase sound [] (access 3) (done 0)
-    ∷ hostCase damaged [] (access 0) (refused 6)
+    hostCase sound [] (Cleared 3) (done 0)
+    ∷ hostCase sound (Cleared 3 ∷ []) (Access 3) (done 1)
+    ∷ hostCase sound (Cleared 3 ∷ []) (Cleared 3) (refused 8)
+    ∷ hostCase sound [] (Cleared 0) (refused 8)
+    ∷ hostCase damaged [] (Cleared 0) (refused 6)
+    ∷ hostCase damaged [] (Cleared 4) (refused 4)
+    ∷ hostCase shortMap [] (Cleared 4) (refused 1)
+    ∷ hostCase sound [] (Access 0) (done 0)
+    ∷ hostCase sound [] (Access 1) (done 1)
+    ∷ hostCase sound [] (Access 2) (done 1)
+    ∷ hostCase sound [] (Access 3) (done 0)
+    ∷ hostCase damaged [] (Access 0) (refused 6)
     -- a third word that names it does not count
-    ∷ hostCase damaged [] (access 2) (done 1)
-    ∷ hostCase sound [] (access (2 ^ 64 - 1)) (refused 4)
-    ∷ hostCase shortMap [] (access 2) (refused 1)
-    ∷ hostCase sound [] (show 0) (done 0)
-    ∷ hostCase damaged [] (show 0) (done 0)
-    ∷ hostCase noFrames [] (show 0) (done 0)
-    ∷ hostCase sound [] (show 2) (refused 2)
-    ∷ hostCase shortMap [] (show 2) (refused 1)
+    ∷ hostCase damaged [] (Access 2) (done 1)
+    ∷ hostCase sound [] (Access (2 ^ 64 - 1)) (refused 4)
+    ∷ hostCase shortMap [] (Access 2) (refused 1)
+    ∷ hostCase sound [] (Show 0) (done 0)
+    ∷ hostCase damaged [] (Show 0) (done 0)
+    ∷ hostCase noFrames [] (Show 0) (done 0)
+    ∷ hostCase sound [] (Show 2) (refused 2)
+    ∷ hostCase shortMap [] (Show 2) (refused 1)
     ∷ []
 
 -- firmware registers
 abbrev pub registers : List HostCase
 registers =
-    hostCase noFrames [] (registerRead 1 2) (done 1)
-    ∷ hostCase sound [] (registerRead 1 0) (done 0)
-    ∷ hostCase sound [] (registerRead 1 3) (minus 2)
-    ∷ hostCase sound [] (registerRead 1 (2 ^ 32)) (minus 2)
-    ∷ hostCase sound [] (registerRead 2 3) (refused 2)
-    ∷ hostCase sound [] (registerWrite 1 2 0) (done 0)
-    ∷ hostCase sound (registerWrite 1 2 0 ∷ []) (registerRead 1 2) (done 0)
-    ∷ hostCase sound [] (registerWrite 1 2 2) (minus 22)
-    ∷ hostCase sound [] (registerWrite 1 0 1) (minus 22)
+    hostCase noFrames [] (RegisterRead 1 2) (done 1)
+    ∷ hostCase sound [] (RegisterRead 1 0) (done 0)
+    ∷ hostCase sound [] (RegisterRead 1 3) (minus 2)
+    ∷ hostCase sound [] (RegisterRead 1 (2 ^ 32)) (minus 2)
+    ∷ hostCase sound [] (RegisterRead 2 3) (refused 2)
+    ∷ hostCase sound [] (RegisterWrite 1 2 0) (done 0)
+    ∷ hostCase sound (RegisterWrite 1 2 0 ∷ []) (RegisterRead 1 2) (done 0)
+    ∷ hostCase sound [] (RegisterWrite 1 2 2) (minus 22)
+    ∷ hostCase sound [] (RegisterWrite 1 0 1) (minus 22)
     -- after run: another register, a bad value, the same value
-    ∷ hostCase sound [] (registerWrite 0 3 1) (minus 2)
-    ∷ hostCase sound [] (registerWrite 0 1 1) (minus 22)
-    ∷ hostCase sound [] (registerWrite 0 2 1) (minus 16)
-    ∷ hostCase sound [] (registerWrite 2 3 1) (refused 2)
+    ∷ hostCase sound [] (RegisterWrite 0 3 1) (minus 2)
+    ∷ hostCase sound [] (RegisterWrite 0 1 1) (minus 22)
+    ∷ hostCase sound [] (RegisterWrite 0 2 1) (minus 16)
+    ∷ hostCase sound [] (RegisterWrite 2 3 1) (refused 2)
     ∷ []
 
 abbrev pub hostCases : List HostCase

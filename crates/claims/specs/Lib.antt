@@ -1,4 +1,3 @@
-pub mod Step
 pub mod Refusals
 pub mod SingleSteps
 pub mod Pieces
