@@ -1,0 +1,107 @@
+ghost use mathlib.Core.Path.{_≡_};
+ghost use Prim.Native.Nat.{_+_, _*_, _≤_};
+ghost use lib.ListN.{length, getD};
+ghost use Rattle.trace_records.specs.Record.{bigEndian, slotIn, argumentIn, registersIn, headerHolds, someLength, startHolds};
+use functions::Registers;
+
+fn wide(byte: u8) -> u64
+    ensures { λ r. ⌜ r ≡ byte ⌝ }
+{
+    byte as u64
+}
+
+// The number of at most eight bytes, the most significant first.
+fn big_endian(bytes: &[u8]) -> u64
+    requires { ⌜ length (now bytes) ≤ 8 ⌝ }
+    ensures { λ r. ⌜ r ≡ bigEndian (now (bytes .entry)) ⌝ }
+{
+    let mut value: u64 = 0;
+    let mut i: usize = 0;
+    while i < bytes.len() {
+        value = value * 256 + wide(bytes[i]);
+        i += 1;
+    }
+    value
+}
+
+// The slot byte of a record.
+pub(crate) fn slot(s: &[u8]) -> u64
+    requires { ⌜ 5 ≤ length (now s) ⌝ }
+    ensures { λ r. ⌜ r ≡ slotIn (now (s .entry)) ⌝ }
+{
+    wide(s[4])
+}
+
+// An argument of a record, numbered from 0.
+pub(crate) fn argument(s: &[u8], number: usize) -> u64
+    requires { ⌜ 13 + 8 * number ≤ length (now s) ⌝ }
+    ensures { λ r. ⌜ r ≡ argumentIn (now (s .entry)) number ⌝ }
+{
+    let start = 5 + 8 * number;
+    let end = start + 8;
+    big_endian(&s[start..end])
+}
+
+// The four arguments of a hypercall.
+pub(crate) fn registers(s: &[u8]) -> Registers
+    requires { ⌜ 37 ≤ length (now s) ⌝ }
+    ensures { λ r. ⌜ r ≡ registersIn (now (s .entry)) ⌝ }
+{
+    Registers {
+        r0: argument(s, 0),
+        r1: argument(s, 1),
+        r2: argument(s, 2),
+        r3: argument(s, 3),
+    }
+}
+
+// Whether the first four bytes are those of a record, of a kind that has this length.
+pub(crate) fn header_holds(s: &[u8], expected: usize) -> bool
+    requires { ⌜ 4 ≤ length (now s) ⌝ }
+    ensures { λ r. ⌜ r ≡ headerHolds (now (s .entry)) expected ⌝ }
+{
+    if 0 < expected {
+        if big_endian(&s[0..2]) == expected as u64 {
+            return s[2] == 1;
+        }
+        return false;
+    }
+    false
+}
+
+// A byte, or another where there is none.
+fn byte_or(s: &[u8], at: usize, other: u8) -> u8
+    ensures { λ r. ⌜ r ≡ getD (now (s .entry)) at other ⌝ }
+{
+    if at < s.len() { s[at] } else { other }
+}
+
+// Whether some kind has this length.
+fn some_length(length: u8) -> bool
+    ensures { λ r. ⌜ r ≡ someLength length ⌝ }
+{
+    match length {
+        0..=2 => false,
+        3 => true,
+        4..=10 => false,
+        11 => true,
+        12..=18 => false,
+        19 => true,
+        20..=34 => false,
+        35 => true,
+        36..=255 => false,
+    }
+}
+
+// Whether fewer than four bytes are those that a record begins with.
+pub(crate) fn start_holds(s: &[u8]) -> bool
+    ensures { λ r. ⌜ r ≡ startHolds (now (s .entry)) ⌝ }
+{
+    if byte_or(s, 0, 0) == 0 {
+        if some_length(byte_or(s, 1, 3)) {
+            return byte_or(s, 2, 1) == 1;
+        }
+        return false;
+    }
+    false
+}
