@@ -1,0 +1,41 @@
+-- What is put are the digits of `io::decimal`, which are the numeral, at most 20.
+use mathlib.Core.Path.{_∙_}
+use native.Mathlib.Omega.{arith}
+use Rattle.trace_lines.proofs.DecimalLaws.{digits-few, digits-decimal}
+use borrow.Author.Needs.{needs}
+use Rattle.trace_lines.proofs.puts.put_decimal.Statement.{statement}
+use Rattle.trace_lines.proofs.puts.put_decimal.Tie as tie
+
+decimal-requires : tie.Need-decimal-requires
+decimal-requires c κs = search needs
+
+array-share-prefix-digits : tie.Need-array-share-prefix-digits
+array-share-prefix-digits c = search needs
+
+slice-aggregate-put-bytes : tie.Need-slice-aggregate-put-bytes
+slice-aggregate-put-bytes c = search needs
+
+put-bytes-requires : tie.Need-put-bytes-requires
+put-bytes-requires c κs =
+    let number = c .before .before .before .before .args .number in
+    let fits = c .before .before .before .before .fits .number in
+    let done = c .before .before .decimal in
+    omega (arith, digits-few number (done .result) fits (done .ensures .1 .0))
+
+returns : tie.Need-returns
+returns c =
+    let number = c .before .before .before .before .before .args .number in
+    let fits = c .before .before .before .before .before .fits .number in
+    let done = c .before .before .before .decimal in
+    let text = done .ensures .1 .1 ∙ digits-decimal number (done .result) fits (done .ensures .1 .0) in
+    rw text at (c .put-bytes .ensures)
+
+pub put-decimal-spec : {M : Type 1} → statement M
+put-decimal-spec =
+    tie.close
+    (tie.spec
+    decimal-requires
+    array-share-prefix-digits
+    slice-aggregate-put-bytes
+    put-bytes-requires
+    returns)

@@ -1,0 +1,43 @@
+ghost use mathlib.Core.Path.{_≡_};
+ghost use Prim.Native.Nat.{_+_, _≤_, _<_};
+ghost use lib.ListN.{length};
+ghost use Rattle.trace_lines.specs.Line.{cell, decimal};
+ghost use Rattle.trace_lines.specs.Puts.{Puts};
+
+// The bytes of a buffer for lines.
+pub const ROOM: usize = 65536;
+
+// Puts bytes into the buffer behind the first `at`, and answers how many there are then.
+pub(crate) fn put_bytes(out: &mut [u8; ROOM], at: usize, bytes: &[u8]) -> usize
+    requires { ⌜ at + length (now bytes) ≤ 65536 ⌝ }
+    ensures { λ r. ⌜ Puts (now (out .entry)) at (now (bytes .entry)) (now (out .exit)) r ⌝ }
+{
+    let room: &mut [u8] = out;
+    let mut i: usize = 0;
+    while i < bytes.len() {
+        room[at + i] = bytes[i];
+        i += 1;
+    }
+    at + i
+}
+
+// Puts a number in decimals.
+fn put_decimal(out: &mut [u8; ROOM], at: usize, number: u64) -> usize
+    requires { ⌜ at + 20 ≤ 65536 ⌝ }
+    ensures { λ r. ⌜ Puts (now (out .entry)) at (decimal number) (now (out .exit)) r ⌝ }
+{
+    let mut digits = [0u8; 20];
+    let count = io::decimal(number, &mut digits);
+    put_bytes(out, at, &digits[..count])
+}
+
+// Puts a number in decimals, and one byte behind it.
+pub(crate) fn put_cell(out: &mut [u8; ROOM], at: usize, number: u64, end: u8) -> usize
+    requires { ⌜ at + 21 ≤ 65536 ⌝ }
+    ensures { λ r. ⌜ Puts (now (out .entry)) at (cell number end) (now (out .exit)) r ⌝ }
+{
+    let next = put_decimal(out, at, number);
+    let room: &mut [u8] = out;
+    room[next] = end;
+    next + 1
+}
