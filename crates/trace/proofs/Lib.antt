@@ -1,0 +1,4 @@
+pub mod ReplayLaws
+pub mod ContinueLaws
+pub mod TailLaws
+pub mod Whole

@@ -1,0 +1,72 @@
+-- Whole logs: how pieces join, what the text of a whole log is, and document 01's cases.
+use mathlib.Core.Path.{_≡_, refl, _∙_, sym, ap}
+use mathlib.Core.Bool.{Bool, true, false, cond}
+use mathlib.Core.List.{List, [], _++_, map, append-nil, append-assoc}
+use Prim.Native.Nat.{ℕ, _+_, _≤_, _<_}
+use native.Mathlib.Omega.{arith}
+use lib.ListN.{length, drop}
+use lib.Seq.{drop-drop, drop-append-le}
+use Rattle.words.specs.MapWord.{mapBits, mapWordOf}
+use Rattle.words.specs.FrameWord.{frameBits, frameWordOf}
+use Rattle.tables.specs.Length.{framesHold, mapHolds}
+use Rattle.tables.specs.Row.{boundsOf}
+use Rattle.tables.specs.Pair.{granuleState, pairAt, frameState, pairOf}
+use Rattle.records.specs.Monitor.{guestOf, withGuest}
+use Rattle.records.specs.Answer.{numbersOf}
+use Rattle.granules.specs.Kind.{changeOf}
+use Rattle.granules.specs.Step.{stepFrom}
+use Rattle.functions.specs.Function.{functionOf}
+use Rattle.functions.specs.Table.{rowOf, actionOf}
+use Rattle.guest.specs.Calls.{actOf, hypercallOf}
+use Rattle.rows.specs.WholeRow.{rowVacant}
+use Rattle.host_donation.specs.Calls.{donateOf}
+use Rattle.host_guests.specs.Calls.{freeFrom, createOf, runOf}
+use Rattle.calls.specs.Step.{step}
+use Rattle.trace_records.specs.Record.{kindOf, lengthOf, askedIn, decodeOf}
+use Rattle.trace_records.specs.declared.decoding.Decoded.{Decoded}
+use Rattle.trace_records.specs.declared.decoding.Decoded.the-variants.{Record, Bad, Unfinished}
+use Rattle.trace_records.proofs.DecodeLaws.{unfinished-size}
+use Rattle.trace_lines.specs.Line.{numeral, decimal, lineText}
+use Rattle.trace_lines.specs.declared.lines.Line.the-variants.{First}
+use Rattle.trace.specs.Replay.{Replay, Advance, advance, waiting, advanceBy, advanceOf, after, outcome, outcomeOf, freshReplay, closing, replayText}
+use Rattle.trace.specs.Contracts.{Continues}
+use Rattle.trace.specs.Cases.{cases, found, expected}
+use Rattle.trace.proofs.ReplayLaws.{one-record}
+
+-- A log in two pieces: what the first left unread stands before the second, and the texts stand one behind the other.
+pub continues-then : (start between left : Replay) (a b x y : List ℕ) (n m : ℕ) → n ≤ length a → Continues start a between n x
+    → Continues between (drop n a ++ b) left m y
+    → Continues start (a ++ b) left (n + m) (x ++ y)
+continues-then start between left a b x y n m h f g later =
+    let rest : drop (n + m) (a ++ b) ≡ drop m (drop n a ++ b) = sym (drop-drop m n (a ++ b)) ∙ ap (λ (l : List ℕ). drop m l) (drop-append-le n a b h) in
+    rw (append-assoc, f (b ++ later), ← append-assoc (drop n a) b later, g later, rest, append-assoc)
+
+waiting-outcome : (r : Replay) (s : List ℕ) → advanceOf r s ≡ waiting r → outcomeOf r s ≡ outcome [] r s
+waiting-outcome r s h = one-record r s ∙ rw h
+
+-- At the end of a log, where a replay waits for more bytes: the first line, the text so far and the last lines are the whole output.
+pub whole-text : (left : Replay) (log text : List ℕ) (n : ℕ) → Continues freshReplay log left n text → advanceOf left (drop n log) ≡ waiting left
+    → replayText log ≡ lineText First ++ (text ++ closing (left .answered) (length (drop n log)))
+unfolding replayText
+whole-text left log text n h waits =
+    let all : outcomeOf freshReplay log ≡ after text (outcome [] left (drop n log)) =
+    rw (append-nil, append-nil, waiting-outcome left (drop n log) waits) at (h []) in
+    rw (all, append-nil)
+
+-- While a replay waits, the bytes that it has not taken are fewer than those of the longest record.
+held-by : (b : Bool) (r : Replay) (s : List ℕ) (d : Decoded) → r .stopped ≡ b → decodeOf s ≡ d
+    → cond b (advance r (length s) [] false) (advanceBy r s d) ≡ waiting r
+    → length s < 37
+held-by true r s d e q h = let none = ap (λ (a : Advance). a .taken) h in omega arith
+held-by false r s (Record c n) e q h = let on = ap (λ (a : Advance). a .more) h in let z : _≡_ {A = ℕ} 0 1 = cc in absurd (omega arith)
+held-by false r s Bad e q h = let end = ap (λ (a : Advance). a .left .stopped) h in let z : _≡_ {A = ℕ} 0 1 = cc in absurd (omega arith)
+held-by false r s Unfinished e q h = unfinished-size s q
+
+pub held-at-most : (r : Replay) (s : List ℕ) → advanceOf r s ≡ waiting r → length s < 37
+unfolding advanceOf
+held-at-most r s h = held-by (r .stopped) r s (decodeOf s) refl refl h
+
+-- document 01's example and the empty input
+pub log-cases : map found cases ≡ map expected cases
+unfolding replayText outcomeOf advanceOf decodeOf kindOf lengthOf askedIn numeral decimal step createOf freeFrom donateOf runOf hypercallOf actOf functionOf rowOf actionOf stepFrom changeOf rowVacant boundsOf frameState pairOf granuleState pairAt mapWordOf frameWordOf mapBits frameBits numbersOf guestOf withGuest framesHold mapHolds
+log-cases = refl

@@ -1,0 +1,49 @@
+-- Document 01, "Trace program": its example, and the empty input.
+use mathlib.Core.List.{List, [], _∷_, _++_}
+use Prim.Native.Nat.{ℕ}
+use Rattle.trace.specs.Replay.{replayText}
+
+-- the bytes before a record's arguments: length, version 1, kind, slot 0
+abbrev pub header : ℕ → ℕ → List ℕ
+header n k = 0 ∷ n ∷ 1 ∷ k ∷ 0 ∷ []
+
+-- an argument below 2^32, of four bytes behind four of zero
+abbrev pub argument : ℕ → ℕ → ℕ → ℕ → List ℕ
+argument a b c d = 0 ∷ 0 ∷ 0 ∷ 0 ∷ a ∷ b ∷ c ∷ d ∷ []
+
+-- "Create, then donate frame 3 at granule 5, run, share one granule there"
+abbrev pub exampleLog : List ℕ
+exampleLog =
+    header 3 1
+    ++ (header 19 2 ++ (argument 0 0 0 3 ++ (argument 0 0 0 5
+    ++ (header 3 3
+    ++ (header 35 4 ++ (argument 0xC6 0 0 3 ++ (argument 0 0 0x50 0 ++ (argument 0 0 0 1 ++ argument 0 0 0 0))))))))
+
+-- three records of five numbers that are zero
+abbrev pub zeros : List ℕ
+zeros = 48 ∷ 32 ∷ 48 ∷ 32 ∷ 48 ∷ 32 ∷ 48 ∷ 32 ∷ 48 ∷ 10 ∷ []
+
+-- "monitor 1", "0 0 0 0 0" three times, "10 0 1 0 0", "end 4"
+abbrev pub exampleText : List ℕ
+exampleText =
+    (109 ∷ 111 ∷ 110 ∷ 105 ∷ 116 ∷ 111 ∷ 114 ∷ 32 ∷ 49 ∷ 10 ∷ [])
+    ++ (zeros ++ (zeros ++ (zeros
+    ++ ((49 ∷ 48 ∷ 32 ∷ 48 ∷ 32 ∷ 49 ∷ 32 ∷ 48 ∷ 32 ∷ 48 ∷ 10 ∷ [])
+    ++ (101 ∷ 110 ∷ 100 ∷ 32 ∷ 52 ∷ 10 ∷ [])))))
+
+-- "Empty input prints the first line and `end 0`."
+abbrev pub emptyText : List ℕ
+emptyText = (109 ∷ 111 ∷ 110 ∷ 105 ∷ 116 ∷ 111 ∷ 114 ∷ 32 ∷ 49 ∷ 10 ∷ []) ++ (101 ∷ 110 ∷ 100 ∷ 32 ∷ 48 ∷ 10 ∷ [])
+
+-- a log, and the whole output of its replay
+pub data LogCase : Type 0 where
+  logCase : List ℕ → List ℕ → LogCase
+
+abbrev pub found : LogCase → List ℕ
+found (logCase log text) = replayText log
+
+abbrev pub expected : LogCase → List ℕ
+expected (logCase log text) = text
+
+abbrev pub cases : List LogCase
+cases = logCase exampleLog exampleText ∷ logCase [] emptyText ∷ []

@@ -1,0 +1,3 @@
+pub mod Replay
+pub mod Contracts
+pub mod Cases
