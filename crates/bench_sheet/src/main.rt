@@ -1,0 +1,10 @@
+// The cases of document 01's bench sheet that are run and compared, and the published UID, through the real calls.
+// It rests on calls for the calls, on functions and records for their arguments and answers, and on io to write a line a case.
+mod cases;
+mod lines;
+mod uid;
+
+fn main() {
+    cases::share_of_65();
+    cases::published_uid();
+}
