@@ -1,0 +1,23 @@
+// Logs that end in a record that is not good: each log that an argument names is replayed by itself, as replay does, to standard output.
+use libc::STDOUT_FILENO;
+
+fn replay_file(number: usize) {
+    let mut path = io::buffer();
+    let length = os::arg(number, &mut path);
+    let log = os::open_read(&path[..length]);
+    if log < 0 {
+        os::fail(&path[..length]);
+        return;
+    }
+    replay_stream::replay(log, STDOUT_FILENO);
+    libc::close(log);
+}
+
+fn main() {
+    let count = os::arg_count();
+    let mut number: usize = 1;
+    while number < count {
+        replay_file(number);
+        number += 1;
+    }
+}
