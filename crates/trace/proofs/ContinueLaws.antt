@@ -1,7 +1,7 @@
 -- A replay that stopped after some records goes on as if it had not: the texts stand one behind the other.
 use mathlib.Core.Path.{_≡_, refl, _∙_, sym, ap}
 use mathlib.Core.Bool.{Bool, true, false, cond}
-use mathlib.Core.List.{List, [], _∷_, _++_, append-assoc}
+use mathlib.Core.List.{List, [], _++_, append-assoc}
 use Prim.Native.Nat.{ℕ, _+_, _≤_, _<_}
 use native.Mathlib.Omega.{arith}
 use lib.ListN.{length, take, drop, length-drop}
@@ -13,7 +13,7 @@ use Rattle.trace_records.specs.declared.decoding.Decoded.{Decoded}
 use Rattle.trace_records.specs.declared.decoding.Decoded.the-variants.{Record, Bad, Unfinished}
 use Rattle.trace_lines.proofs.LineLaws.{line-length}
 use Rattle.trace_lines.specs.declared.lines.Line.the-variants.{Answer}
-use Rattle.trace.specs.Replay.{Replay, replay, Advance, advance, waiting, advanceBy, advanceOf, after, outcomeOf}
+use Rattle.trace.specs.Replay.{Replay, replay, advance, waiting, advanceBy, advanceOf, after}
 use Rattle.trace.specs.Contracts.{Continues, Advances}
 use Rattle.trace.specs.declared.session.Advanced.{Advanced}
 use Rattle.trace.proofs.ReplayLaws.{took, outcome-advances, advance-stopped, advance-decoded}

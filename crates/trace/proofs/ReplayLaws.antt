@@ -1,17 +1,17 @@
 -- A replay of some bytes goes on from where it got, whatever bytes follow: good and bad records stay so when more bytes come.
-use mathlib.Core.Path.{_≡_, refl, _∙_, sym, ap}
+use mathlib.Core.Path.{_≡_, refl, _∙_, sym}
 use mathlib.Core.Bool.{Bool, true, false, cond}
-use mathlib.Core.List.{List, [], _∷_, _++_, append-assoc}
+use mathlib.Core.List.{List, [], _∷_, _++_}
 use Prim.Native.Nat.{ℕ, zero, suc, _+_, _≤_, _<_}
 use native.Mathlib.Omega.{arith}
-use lib.ListN.{length, drop, length-append, length-drop}
+use lib.ListN.{length, drop, length-drop}
 use lib.Seq.{drop-append-le, drop-length}
-use Rattle.calls.specs.declared.call.Call.{Call}
 use Rattle.trace_records.specs.Record.{decodeOf}
 use Rattle.trace_records.specs.declared.decoding.Decoded.{Decoded}
 use Rattle.trace_records.specs.declared.decoding.Decoded.the-variants.{Record, Bad, Unfinished}
-use Rattle.trace_records.proofs.DecodeLaws.{record-size, record-stays, bad-stays}
-use Rattle.trace.specs.Replay.{Replay, replay, Advance, advance, waiting, advanceBy, advanceOf, Outcome, outcome, after, goOn, recordByRecord, outcomeOf}
+use Rattle.trace_records.proofs.DecodeLaws.{record-size, record-stays}
+use Rattle.trace_records.proofs.BadLaws.{bad-stays}
+use Rattle.trace.specs.Replay.{Replay, replay, Advance, advance, advanceBy, advanceOf, Outcome, outcome, after, goOn, recordByRecord, outcomeOf}
 
 -- what a record comes to, by what the bytes are
 pub advance-stopped : (r : Replay) (s : List ℕ) → r .stopped ≡ true → advanceOf r s ≡ advance r (length s) [] false

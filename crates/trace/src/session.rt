@@ -1,6 +1,5 @@
 ghost use mathlib.Core.Path.{_≡_};
 ghost use Prim.Native.Nat.{_+_, _≤_};
-ghost use lib.ListN.{length};
 ghost use Rattle.trace_lines.specs.Puts.{Puts};
 ghost use Rattle.trace.specs.Replay.{freshReplay, advanceOf, closing};
 ghost use Rattle.trace.specs.Contracts.{kept, Advances, Replays};

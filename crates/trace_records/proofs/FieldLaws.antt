@@ -1,4 +1,4 @@
--- Laws of the fields of a record: the number of some bytes as it grows by one, why it fits, a byte that is there, and the longest record.
+-- Laws of the fields of a record: the number of some bytes as it grows by one, why it fits, and a byte that is there.
 use mathlib.Core.Path.{_≡_, refl}
 use mathlib.Core.List.{List, [], _∷_, _++_}
 use Prim.Native.Nat.{ℕ, suc, zero, _+_, _*_, _^_, _<_, _≤_}
@@ -7,9 +7,7 @@ use native.Mathlib.Numerals.{add-one}
 use native.Mathlib.Omega.{arith}
 use lib.ListN.{length, getD, take}
 use lib.Seq.{take-suc}
-use Rattle.trace_records.specs.Record.{valueBehind, bigEndian, lengthOf}
-use Rattle.trace_records.specs.declared.kinds.Kind.{Kind}
-use Rattle.trace_records.specs.declared.kinds.Kind.the-variants.{Create, Donate, Run, Hypercall, Abort, Remove, Cleared, Access, RegisterRead, RegisterWrite, Unknown}
+use Rattle.trace_records.specs.Record.{valueBehind, bigEndian}
 
 -- a byte behind the others
 value-behind-more : (n : ℕ) (xs : List ℕ) (b : ℕ) → valueBehind n (xs ++ (b ∷ [])) ≡ valueBehind n xs * 256 + b
@@ -31,18 +29,3 @@ pub read-within : (s : List ℕ) (i d e : ℕ) → i < length s → getD s i d �
 read-within [] i d e h = absurd (omega arith)
 read-within (x ∷ xs) zero d e h = refl
 read-within (x ∷ xs) (suc i) d e h = read-within xs i d e (omega arith)
-
--- no record is longer than a hypercall's
-pub length-at-most : (k : Kind) → lengthOf k ≤ 35
-unfolding lengthOf
-length-at-most Create = omega arith
-length-at-most Donate = omega arith
-length-at-most Run = omega arith
-length-at-most Hypercall = omega arith
-length-at-most Abort = omega arith
-length-at-most Remove = omega arith
-length-at-most Cleared = omega arith
-length-at-most Access = omega arith
-length-at-most RegisterRead = omega arith
-length-at-most RegisterWrite = omega arith
-length-at-most Unknown = omega arith

@@ -1,2 +1,4 @@
 pub mod FieldLaws
+pub mod KindLaws
 pub mod DecodeLaws
+pub mod BadLaws

@@ -1,9 +1,9 @@
 -- Document 01, "Trace program": "Input is records: 2 bytes length of the rest, version byte 1, kind byte, slot byte, then 8-byte arguments,
 -- all big-endian."
-use mathlib.Core.Bool.{Bool, true, false, cond, _&&_, _||_}
+use mathlib.Core.Bool.{Bool, cond, _&&_, _||_}
 use mathlib.Core.List.{List, [], _∷_}
 use Prim.Native.Nat.{ℕ, _+_, _*_}
-use lib.Dec.{eqb, ltb, leb}
+use lib.Dec.{eqb, ltb}
 use lib.ListN.{length, getD, take, drop}
 use Rattle.functions.specs.declared.rows.Registers.{Registers}
 use Rattle.calls.specs.declared.call.Call.{Call}

@@ -8,13 +8,6 @@ use Rattle.trace.proofs.ReplayLaws.{advance-stopped, advance-decoded}
 use borrow.Author.Needs.{needs}
 use Rattle.trace.proofs.session.Session.advance.Statement.{statement}
 use Rattle.trace.proofs.session.Session.advance.Tie as tie
-use Rattle.trace.proofs.session.Session.advance.Reads as reads
-use Rattle.trace.proofs.session.Session.advance.Lts as lts
-use Rattle.calls.proofs.call.Call.perform.Reads as perform-reads
-use Rattle.records.proofs.answer.Answer.numbers.Reads as numbers-reads
-use Rattle.std.proofs.num.wrapping_add_u64.Reads as wrapping-add-u64-reads
-use Rattle.trace_lines.proofs.lines.Line.put.Reads as put-reads
-use Rattle.trace_records.proofs.decode.Reads as decode-reads
 
 returns : tie.Need-returns
 returns c =

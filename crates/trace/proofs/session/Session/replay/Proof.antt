@@ -1,6 +1,5 @@
 -- Each turn is one record of the definition; the text of each stands behind that of those before it.
 use mathlib.Core.Path.{_≡_, refl}
-use mathlib.Core.Bool.{true, false}
 use Prim.Native.Nat.{ℕ, _+_, _-_, _≤_}
 use native.Mathlib.Omega.{arith}
 use borrow.Author.Tests.{not-true, not-false}
@@ -12,9 +11,6 @@ use Rattle.trace.specs.Contracts.{kept, Advances, Continues}
 use Rattle.trace.proofs.ContinueLaws.{continues-start, advance-continues, advance-within, advance-gets-on, advance-waits}
 use Rattle.trace.proofs.session.Session.replay.Statement.{statement}
 use Rattle.trace.proofs.session.Session.replay.Tie as tie
-use Rattle.trace.proofs.session.Session.replay.Reads as reads
-use Rattle.trace.proofs.session.Session.replay.Lts as lts
-use Rattle.trace.proofs.session.Session.advance.Reads as advance-reads
 
 abbrev Inv-loop : tie.InvT-loop
 Inv-loop frames₀ map₀ bytes out₀ session₀ taken₀ put₀ frames map out session taken put =
