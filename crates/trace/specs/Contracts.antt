@@ -15,6 +15,10 @@ use Rattle.trace.specs.Replay.{Replay, replay, Advance, waiting, advance
 abbrev pub kept : Session → List ℕ → List ℕ → Replay
 kept s frames map = replay (state frames map (s .monitor)) (s .answered) (s .stopped)
 
+-- no record is answered
+abbrev pub resting : Session → ℕ → ℕ → Advanced
+resting s n m = record { session = s; taken = n; put = m; more = false }
+
 -- of one record: what is left, how far it got, the text put behind the first n bytes of the buffer
 pub record Advances (a : Advance) (left : Replay) (before : List ℕ) (n : ℕ) (after : List ℕ) (r : Advanced) : Type 0 where
   pub keeps : left ≡ a .left

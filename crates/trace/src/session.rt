@@ -2,7 +2,7 @@ ghost use mathlib.Core.Path.{_≡_};
 ghost use Prim.Native.Nat.{_+_, _≤_};
 ghost use Rattle.trace_lines.specs.Puts.{Puts};
 ghost use Rattle.trace.specs.Replay.{freshReplay, advanceOf, closing};
-ghost use Rattle.trace.specs.Contracts.{kept, Advances, Replays};
+ghost use Rattle.trace.specs.Contracts.{kept, resting, Advances, Replays};
 use records::Monitor;
 use trace_lines::LONGEST;
 use trace_lines::Line;
@@ -71,15 +71,10 @@ impl Session {
         let monitor = self.monitor;
         let answered = self.answered;
         if self.stopped {
-            return Advanced {
-                session: self,
-                taken: ahead.len(),
-                put: at,
-                more: false,
-            };
+            return self.rest(ahead.len(), at);
         }
         match decode(ahead) {
-            Decoded::Record { call, size } => {
+            Decoded::Record(call, size) => {
                 let reply = call.perform(monitor, frames, map);
                 let answer = reply.answer;
                 let after = reply.monitor;
@@ -104,12 +99,19 @@ impl Session {
                 put: Line::Bad.put(out, at),
                 more: false,
             },
-            Decoded::Unfinished => Advanced {
-                session: self,
-                taken: 0,
-                put: at,
-                more: false,
-            },
+            Decoded::Unfinished => self.rest(0, at),
+        }
+    }
+
+    // No record is answered.
+    fn rest(self, taken: usize, put: usize) -> Advanced
+        ensures { λ r. ⌜ r ≡ resting self taken put ⌝ }
+    {
+        Advanced {
+            session: self,
+            taken,
+            put,
+            more: false,
         }
     }
 

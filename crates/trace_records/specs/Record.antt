@@ -5,7 +5,6 @@ use mathlib.Core.List.{List, [], _∷_}
 use Prim.Native.Nat.{ℕ, _+_, _*_}
 use lib.Dec.{eqb, ltb}
 use lib.ListN.{length, getD, take, drop}
-use Rattle.functions.specs.declared.rows.Registers.{Registers}
 use Rattle.calls.specs.declared.call.Call.{Call}
 use Rattle.calls.specs.declared.call.Call.the-variants as call
 use Rattle.trace_records.specs.declared.kinds.Kind.{Kind}
@@ -70,8 +69,22 @@ slotIn s = getD s 4 0
 abbrev pub argumentIn : List ℕ → ℕ → ℕ
 argumentIn s k = bigEndian (take 8 (drop (5 + 8 * k) s))
 
-abbrev pub registersIn : List ℕ → Registers
-registersIn s = record { r0 = argumentIn s 0; r1 = argumentIn s 1; r2 = argumentIn s 2; r3 = argumentIn s 3 }
+-- the calls of records that have several fields
+abbrev pub donationIn : List ℕ → Call
+donationIn s = call.Donate (slotIn s) (argumentIn s 0) (argumentIn s 1)
+
+abbrev pub hypercallIn : List ℕ → Call
+hypercallIn s =
+    call.Hypercall (slotIn s) (record { r0 = argumentIn s 0; r1 = argumentIn s 1; r2 = argumentIn s 2; r3 = argumentIn s 3 })
+
+abbrev pub abortIn : List ℕ → Call
+abortIn s = call.Abort (slotIn s) (argumentIn s 0)
+
+abbrev pub registerReadIn : List ℕ → Call
+registerReadIn s = call.RegisterRead (slotIn s) (argumentIn s 0)
+
+abbrev pub registerWriteIn : List ℕ → Call
+registerWriteIn s = call.RegisterWrite (slotIn s) (argumentIn s 0) (argumentIn s 1)
 
 -- a good record of a kind: its call, and where the next begins
 abbrev pub good : Kind → Call → Decoded
@@ -80,15 +93,15 @@ good k c = decoded.Record c (2 + lengthOf k)
 -- what a whole record asks for. "Create, cleared and access ignore the slot byte."
 unfoldable pub askedIn : Kind → List ℕ → Decoded
 askedIn Create s = good Create call.Create
-askedIn Donate s = good Donate (call.Donate (slotIn s) (argumentIn s 0) (argumentIn s 1))
+askedIn Donate s = good Donate (donationIn s)
 askedIn Run s = good Run (call.Run (slotIn s))
-askedIn Hypercall s = good Hypercall (call.Hypercall (slotIn s) (registersIn s))
-askedIn Abort s = good Abort (call.Abort (slotIn s) (argumentIn s 0))
+askedIn Hypercall s = good Hypercall (hypercallIn s)
+askedIn Abort s = good Abort (abortIn s)
 askedIn Remove s = good Remove (call.Remove (slotIn s))
 askedIn Cleared s = good Cleared (call.Cleared (argumentIn s 0))
 askedIn Access s = good Access (call.Access (argumentIn s 0))
-askedIn RegisterRead s = good RegisterRead (call.RegisterRead (slotIn s) (argumentIn s 0))
-askedIn RegisterWrite s = good RegisterWrite (call.RegisterWrite (slotIn s) (argumentIn s 0) (argumentIn s 1))
+askedIn RegisterRead s = good RegisterRead (registerReadIn s)
+askedIn RegisterWrite s = good RegisterWrite (registerWriteIn s)
 askedIn Unknown s = decoded.Bad
 
 -- "another length, version or kind prints `bad`": the first four bytes are those of a record, of a kind that has the length n

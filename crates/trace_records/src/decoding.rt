@@ -4,16 +4,20 @@ ghost use lib.ListN.{length};
 ghost use Rattle.trace_records.specs.Record.{lengthOf, askedIn, decodeOf};
 use crate::fields::argument;
 use crate::fields::header_holds;
-use crate::fields::registers;
 use crate::fields::slot;
 use crate::fields::start_holds;
 use crate::kinds::Kind;
+use crate::requests::abort;
+use crate::requests::donation;
+use crate::requests::hypercall;
+use crate::requests::register_read;
+use crate::requests::register_write;
 use calls::Call;
 
 // What the first bytes of a log are.
 pub enum Decoded {
     // A good record: what it asks for, and where the next record begins.
-    Record { call: Call, size: usize },
+    Record(Call, usize),
     // No bytes that follow can make them a good record.
     Bad,
     // The beginning of a good record.
@@ -48,67 +52,22 @@ fn asked(kind: Kind, s: &[u8]) -> Decoded
 {
     let size = 2 + kind.length();
     match kind {
-        Kind::Create => Decoded::Record {
-            call: Call::Create,
-            size,
-        },
-        Kind::Donate => Decoded::Record {
-            call: Call::Donate {
-                slot: slot(s),
-                frame: argument(s, 0),
-                granule: argument(s, 1),
-            },
-            size,
-        },
-        Kind::Run => Decoded::Record {
-            call: Call::Run { slot: slot(s) },
-            size,
-        },
-        Kind::Hypercall => Decoded::Record {
-            call: Call::Hypercall {
-                slot: slot(s),
-                registers: registers(s),
-            },
-            size,
-        },
-        Kind::Abort => Decoded::Record {
-            call: Call::Abort {
-                slot: slot(s),
-                ipa: argument(s, 0),
-            },
-            size,
-        },
-        Kind::Remove => Decoded::Record {
-            call: Call::Remove { slot: slot(s) },
-            size,
-        },
-        Kind::Cleared => Decoded::Record {
-            call: Call::Cleared {
-                frame: argument(s, 0),
-            },
-            size,
-        },
-        Kind::Access => Decoded::Record {
-            call: Call::Access {
-                frame: argument(s, 0),
-            },
-            size,
-        },
-        Kind::RegisterRead => Decoded::Record {
-            call: Call::RegisterRead {
-                slot: slot(s),
-                register: argument(s, 0),
-            },
-            size,
-        },
-        Kind::RegisterWrite => Decoded::Record {
-            call: Call::RegisterWrite {
-                slot: slot(s),
-                register: argument(s, 0),
-                value: argument(s, 1),
-            },
-            size,
-        },
+        Kind::Create => Decoded::Record(Call::Create, size),
+        Kind::Donate => Decoded::Record(donation(s), size),
+        Kind::Run => Decoded::Record(Call::Run { slot: slot(s) }, size),
+        Kind::Hypercall => Decoded::Record(hypercall(s), size),
+        Kind::Abort => Decoded::Record(abort(s), size),
+        Kind::Remove => Decoded::Record(Call::Remove { slot: slot(s) }, size),
+        Kind::Cleared => {
+            let frame = argument(s, 0);
+            Decoded::Record(Call::Cleared { frame }, size)
+        }
+        Kind::Access => {
+            let frame = argument(s, 0);
+            Decoded::Record(Call::Access { frame }, size)
+        }
+        Kind::RegisterRead => Decoded::Record(register_read(s), size),
+        Kind::RegisterWrite => Decoded::Record(register_write(s), size),
         Kind::Unknown => Decoded::Bad,
     }
 }

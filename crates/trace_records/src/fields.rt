@@ -1,8 +1,7 @@
 ghost use mathlib.Core.Path.{_≡_};
 ghost use Prim.Native.Nat.{_+_, _*_, _≤_};
 ghost use lib.ListN.{length, getD};
-ghost use Rattle.trace_records.specs.Record.{bigEndian, slotIn, argumentIn, registersIn, headerHolds, someLength, startHolds};
-use functions::Registers;
+ghost use Rattle.trace_records.specs.Record.{bigEndian, slotIn, argumentIn, headerHolds, someLength, startHolds};
 
 fn wide(byte: u8) -> u64
     ensures { λ r. ⌜ r ≡ byte ⌝ }
@@ -40,19 +39,6 @@ pub(crate) fn argument(s: &[u8], number: usize) -> u64
     let start = 5 + 8 * number;
     let end = start + 8;
     big_endian(&s[start..end])
-}
-
-// The four arguments of a hypercall.
-pub(crate) fn registers(s: &[u8]) -> Registers
-    requires { ⌜ 37 ≤ length (now s) ⌝ }
-    ensures { λ r. ⌜ r ≡ registersIn (now (s .entry)) ⌝ }
-{
-    Registers {
-        r0: argument(s, 0),
-        r1: argument(s, 1),
-        r2: argument(s, 2),
-        r3: argument(s, 3),
-    }
 }
 
 // Whether the first four bytes are those of a record, of a kind that has this length.

@@ -3,6 +3,7 @@
 mod decoding;
 mod fields;
 mod kinds;
+mod requests;
 
 pub use decoding::Decoded;
 pub use decoding::decode;

@@ -1,4 +1,4 @@
--- By the kind: a whole record of it has the bytes that its arguments need, and each field is what its function ensures.
+-- By the kind: a whole record of it has the bytes that its fields need, and its call is what its function ensures.
 use mathlib.Core.Path.{ap}
 use native.Mathlib.Omega.{arith}
 use Rattle.trace_records.specs.Record.{lengthOf, askedIn}
@@ -18,93 +18,65 @@ enum-told c = search needs
 enum-told-2 : tie.Need-enum-told-2
 enum-told-2 c = search needs
 
-slot-requires : tie.Need-slot-requires
+donation-requires : tie.Need-donation-requires
 unfolding lengthOf
-slot-requires c κs = omega (arith, ap lengthOf (c .enum-told2 .given .1))
-
-argument-requires : tie.Need-argument-requires
-unfolding lengthOf
-argument-requires c κs = omega (arith, ap lengthOf (c .before .enum-told2 .given .1))
-
-argument-requires-2 : tie.Need-argument-requires-2
-unfolding lengthOf
-argument-requires-2 c κs = omega (arith, ap lengthOf (c .before .before .enum-told2 .given .1))
+donation-requires c κs = omega (arith, ap lengthOf (c .enum-told2 .given .1))
 
 enum-told-3 : tie.Need-enum-told-3
 enum-told-3 c = search needs
 
-slot-requires-2 : tie.Need-slot-requires-2
+slot-requires : tie.Need-slot-requires
 unfolding lengthOf
-slot-requires-2 c κs = omega (arith, ap lengthOf (c .enum-told3 .given .1))
+slot-requires c κs = omega (arith, ap lengthOf (c .enum-told3 .given .1))
 
 enum-told-4 : tie.Need-enum-told-4
 enum-told-4 c = search needs
 
-slot-requires-3 : tie.Need-slot-requires-3
+hypercall-requires : tie.Need-hypercall-requires
 unfolding lengthOf
-slot-requires-3 c κs = omega (arith, ap lengthOf (c .enum-told4 .given .1))
-
-registers-requires : tie.Need-registers-requires
-unfolding lengthOf
-registers-requires c κs = omega (arith, ap lengthOf (c .before .enum-told4 .given .1))
+hypercall-requires c κs = omega (arith, ap lengthOf (c .enum-told4 .given .1))
 
 enum-told-5 : tie.Need-enum-told-5
 enum-told-5 c = search needs
 
-slot-requires-4 : tie.Need-slot-requires-4
+abort-requires : tie.Need-abort-requires
 unfolding lengthOf
-slot-requires-4 c κs = omega (arith, ap lengthOf (c .enum-told5 .given .1))
-
-argument-requires-3 : tie.Need-argument-requires-3
-unfolding lengthOf
-argument-requires-3 c κs = omega (arith, ap lengthOf (c .before .enum-told5 .given .1))
+abort-requires c κs = omega (arith, ap lengthOf (c .enum-told5 .given .1))
 
 enum-told-6 : tie.Need-enum-told-6
 enum-told-6 c = search needs
 
-slot-requires-5 : tie.Need-slot-requires-5
+slot-requires-2 : tie.Need-slot-requires-2
 unfolding lengthOf
-slot-requires-5 c κs = omega (arith, ap lengthOf (c .enum-told6 .given .1))
+slot-requires-2 c κs = omega (arith, ap lengthOf (c .enum-told6 .given .1))
 
 enum-told-7 : tie.Need-enum-told-7
 enum-told-7 c = search needs
 
-argument-requires-4 : tie.Need-argument-requires-4
+argument-requires : tie.Need-argument-requires
 unfolding lengthOf
-argument-requires-4 c κs = omega (arith, ap lengthOf (c .enum-told7 .given .1))
+argument-requires c κs = omega (arith, ap lengthOf (c .enum-told7 .given .1))
 
 enum-told-8 : tie.Need-enum-told-8
 enum-told-8 c = search needs
 
-argument-requires-5 : tie.Need-argument-requires-5
+argument-requires-2 : tie.Need-argument-requires-2
 unfolding lengthOf
-argument-requires-5 c κs = omega (arith, ap lengthOf (c .enum-told8 .given .1))
+argument-requires-2 c κs = omega (arith, ap lengthOf (c .enum-told8 .given .1))
 
 enum-told-9 : tie.Need-enum-told-9
 enum-told-9 c = search needs
 
-slot-requires-6 : tie.Need-slot-requires-6
+register-read-requires : tie.Need-register-read-requires
 unfolding lengthOf
-slot-requires-6 c κs = omega (arith, ap lengthOf (c .enum-told9 .given .1))
-
-argument-requires-6 : tie.Need-argument-requires-6
-unfolding lengthOf
-argument-requires-6 c κs = omega (arith, ap lengthOf (c .before .enum-told9 .given .1))
+register-read-requires c κs = omega (arith, ap lengthOf (c .enum-told9 .given .1))
 
 enum-told-10 : tie.Need-enum-told-10
 enum-told-10 c = search needs
 
-slot-requires-7 : tie.Need-slot-requires-7
+register-write-requires : tie.Need-register-write-requires
 unfolding lengthOf
-slot-requires-7 c κs = omega (arith, ap lengthOf (c .enum-told10 .given .1))
-
-argument-requires-7 : tie.Need-argument-requires-7
-unfolding lengthOf
-argument-requires-7 c κs = omega (arith, ap lengthOf (c .before .enum-told10 .given .1))
-
-argument-requires-8 : tie.Need-argument-requires-8
-unfolding lengthOf
-argument-requires-8 c κs = omega (arith, ap lengthOf (c .before .before .enum-told10 .given .1))
+register-write-requires c κs = omega (arith, ap lengthOf (c .enum-told10 .given .1))
 
 enum-told-11 : tie.Need-enum-told-11
 enum-told-11 c = search needs
@@ -115,7 +87,7 @@ returns c = rw (c .enum-told .given .1) (cc)
 
 returns-2 : tie.Need-returns-2
 unfolding askedIn
-returns-2 c = rw (c .before .before .before .enum-told2 .given .1) (cc)
+returns-2 c = rw (c .before .enum-told2 .given .1) (cc)
 
 returns-3 : tie.Need-returns-3
 unfolding askedIn
@@ -123,11 +95,11 @@ returns-3 c = rw (c .before .enum-told3 .given .1) (cc)
 
 returns-4 : tie.Need-returns-4
 unfolding askedIn
-returns-4 c = rw (c .before .before .enum-told4 .given .1) (cc)
+returns-4 c = rw (c .before .enum-told4 .given .1) (cc)
 
 returns-5 : tie.Need-returns-5
 unfolding askedIn
-returns-5 c = rw (c .before .before .enum-told5 .given .1) (cc)
+returns-5 c = rw (c .before .enum-told5 .given .1) (cc)
 
 returns-6 : tie.Need-returns-6
 unfolding askedIn
@@ -143,11 +115,11 @@ returns-8 c = rw (c .before .enum-told8 .given .1) (cc)
 
 returns-9 : tie.Need-returns-9
 unfolding askedIn
-returns-9 c = rw (c .before .before .enum-told9 .given .1) (cc)
+returns-9 c = rw (c .before .enum-told9 .given .1) (cc)
 
 returns-10 : tie.Need-returns-10
 unfolding askedIn
-returns-10 c = rw (c .before .before .before .enum-told10 .given .1) (cc)
+returns-10 c = rw (c .before .enum-told10 .given .1) (cc)
 
 returns-11 : tie.Need-returns-11
 unfolding askedIn
@@ -161,30 +133,23 @@ asked-spec =
     add-size
     enum-told
     enum-told-2
-    slot-requires
-    argument-requires
-    argument-requires-2
+    donation-requires
     enum-told-3
-    slot-requires-2
+    slot-requires
     enum-told-4
-    slot-requires-3
-    registers-requires
+    hypercall-requires
     enum-told-5
-    slot-requires-4
-    argument-requires-3
+    abort-requires
     enum-told-6
-    slot-requires-5
+    slot-requires-2
     enum-told-7
-    argument-requires-4
+    argument-requires
     enum-told-8
-    argument-requires-5
+    argument-requires-2
     enum-told-9
-    slot-requires-6
-    argument-requires-6
+    register-read-requires
     enum-told-10
-    slot-requires-7
-    argument-requires-7
-    argument-requires-8
+    register-write-requires
     enum-told-11
     returns
     returns-2

@@ -9,11 +9,14 @@ use borrow.Author.Needs.{needs}
 use Rattle.trace.proofs.session.Session.advance.Statement.{statement}
 use Rattle.trace.proofs.session.Session.advance.Tie as tie
 
+rest-requires : tie.Need-rest-requires
+rest-requires c κs = search needs
+
 returns : tie.Need-returns
 returns c =
-    let start = c .before .before .before .before .before in
+    let start = c .before .before .before .before .before .before in
     let replaying = kept (start .args .self) (start .args .frames .now) (start .args .map .now) in
-    rw (advance-stopped replaying (start .args .ahead .now) (c .if1 .taken))
+    rw (advance-stopped replaying (start .args .ahead .now) (c .before .if1 .taken), c .rest .ensures)
     (record { keeps = refl; takes = refl; puts = puts-none _ _; goes = refl })
 
 decode-requires : tie.Need-decode-requires
@@ -43,6 +46,9 @@ put-requires-2 c κs = search needs
 enum-told-2 : tie.Need-enum-told-2
 enum-told-2 c = search needs
 
+rest-requires-2 : tie.Need-rest-requires-2
+rest-requires-2 c κs = search needs
+
 same-length : tie.Need-same-length
 same-length c = search needs
 
@@ -71,17 +77,18 @@ returns-3 c =
 
 returns-4 : tie.Need-returns-4
 returns-4 c =
-    let decoding = c .before .before in
+    let decoding = c .before .before .before in
     let start = decoding .before .before .before .before .before .before in
     let replaying = kept (start .args .self) (start .args .frames .now) (start .args .map .now) in
-    let decoded = sym (decoding .decode .ensures) ∙ c .enum-told2 .given .1 in
-    rw (advance-decoded replaying (start .args .ahead .now) _ (decoding .before .if1 .left) decoded)
+    let decoded = sym (decoding .decode .ensures) ∙ c .before .enum-told2 .given .1 in
+    rw (advance-decoded replaying (start .args .ahead .now) _ (decoding .before .if1 .left) decoded, c .rest2 .ensures)
     (record { keeps = refl; takes = refl; puts = puts-none _ _; goes = refl })
 
 pub advance-spec : {M : Type 1} → statement M
 advance-spec =
     tie.close
     (tie.spec
+    rest-requires
     returns
     decode-requires
     enum-known-call
@@ -92,6 +99,7 @@ advance-spec =
     enum-told
     put-requires-2
     enum-told-2
+    rest-requires-2
     same-length
     same-length-2
     returns-2
