@@ -2,3 +2,4 @@ pub mod FieldLaws
 pub mod KindLaws
 pub mod DecodeLaws
 pub mod BadLaws
+pub mod UnfinishedLaws
