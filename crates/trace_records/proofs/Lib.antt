@@ -3,3 +3,4 @@ pub mod KindLaws
 pub mod DecodeLaws
 pub mod BadLaws
 pub mod UnfinishedLaws
+pub mod Cases

@@ -1,0 +1,52 @@
+-- Worked records, closed by computing them.
+use mathlib.Core.Path.{_≡_, refl}
+use mathlib.Core.List.{List, [], _∷_, _++_, map}
+use Prim.Native.Nat.{ℕ}
+use Rattle.calls.specs.declared.call.Call.the-variants as call
+use Rattle.trace_records.specs.declared.decoding.Decoded.{Decoded}
+use Rattle.trace_records.specs.declared.decoding.Decoded.the-variants.{Record, Bad, Unfinished}
+use Rattle.trace_records.specs.Record.{kindOf, lengthOf, askedIn, decodeOf}
+
+-- eight bytes with all places different
+abbrev pub bytes : List ℕ
+bytes = 1 ∷ 2 ∷ 3 ∷ 4 ∷ 5 ∷ 6 ∷ 7 ∷ 8 ∷ []
+
+pub data RecordCase : Type 0 where
+  recordCase : List ℕ → Decoded → RecordCase
+
+abbrev pub found : RecordCase → Decoded
+found (recordCase s d) = decodeOf s
+
+abbrev pub expected : RecordCase → Decoded
+expected (recordCase s d) = d
+
+abbrev pub cases : List RecordCase
+cases =
+    -- an abort of slot 9 at 0x0102030405060708; what follows a record does not count
+    recordCase (0 ∷ 11 ∷ 1 ∷ 5 ∷ 9 ∷ bytes) (Record (call.Abort 9 0x0102030405060708) 13)
+    ∷ recordCase ((0 ∷ 11 ∷ 1 ∷ 5 ∷ 9 ∷ bytes) ++ bytes) (Record (call.Abort 9 0x0102030405060708) 13)
+    -- the register stands before the value
+    ∷ recordCase ((0 ∷ 19 ∷ 1 ∷ 10 ∷ 7 ∷ 0 ∷ 0 ∷ 0 ∷ 0 ∷ 0 ∷ 0 ∷ 0 ∷ 2 ∷ []) ++ bytes) (Record (call.RegisterWrite 7 2 0x0102030405060708) 21)
+    -- the slot byte is ignored
+    ∷ recordCase (0 ∷ 3 ∷ 1 ∷ 1 ∷ 200 ∷ []) (Record call.Create 5)
+    ∷ recordCase (0 ∷ 11 ∷ 1 ∷ 8 ∷ 9 ∷ bytes) (Record (call.Access 0x0102030405060708) 13)
+    -- one byte is missing
+    ∷ recordCase (0 ∷ 3 ∷ 1 ∷ 1 ∷ []) Unfinished
+    -- the beginning of a record, and of none
+    ∷ recordCase [] Unfinished
+    ∷ recordCase (0 ∷ []) Unfinished
+    ∷ recordCase (1 ∷ []) Bad
+    ∷ recordCase (0 ∷ 35 ∷ 1 ∷ []) Unfinished
+    ∷ recordCase (0 ∷ 27 ∷ []) Bad
+    ∷ recordCase (0 ∷ 3 ∷ 2 ∷ []) Bad
+    -- the length of another kind, also in its upper byte; another version; no kind
+    ∷ recordCase (0 ∷ 11 ∷ 1 ∷ 1 ∷ 0 ∷ bytes) Bad
+    ∷ recordCase (1 ∷ 3 ∷ 1 ∷ 1 ∷ 0 ∷ []) Bad
+    ∷ recordCase (0 ∷ 3 ∷ 0 ∷ 1 ∷ 0 ∷ []) Bad
+    ∷ recordCase (0 ∷ 3 ∷ 1 ∷ 0 ∷ 0 ∷ []) Bad
+    ∷ recordCase (0 ∷ 3 ∷ 1 ∷ 11 ∷ 0 ∷ []) Bad
+    ∷ []
+
+pub record-cases : map found cases ≡ map expected cases
+unfolding decodeOf kindOf lengthOf askedIn
+record-cases = refl
