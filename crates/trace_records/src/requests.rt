@@ -40,8 +40,9 @@ pub(crate) fn abort(s: &[u8]) -> Call
     requires { ⌜ 13 ≤ length (now s) ⌝ }
     ensures { λ r. ⌜ r ≡ abortIn (now (s .entry)) ⌝ }
 {
+    let caller = slot(s);
     Call::Abort {
-        slot: slot(s),
+        slot: caller,
         ipa: argument(s, 0),
     }
 }
