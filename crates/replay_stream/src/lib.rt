@@ -13,16 +13,13 @@ use trace::Session;
 use trace_lines::Line;
 use trace_lines::ROOM;
 
-// The bytes of a piece, with those held before it.
-const PIECE: usize = 65536;
-
 // Replays the log on one descriptor to its end, and writes the text to another. Where the text can't be written it stops. Where the log can't
 // be read it stops too, with a message on standard error and no last line.
 pub fn replay(from: i32, to: i32) {
     let mut frames = [0u32; FRAMES];
     let mut map = [0u32; MAP_WORDS];
-    let mut out = [0u8; ROOM];
-    let mut input = [0u8; PIECE];
+    let mut out = io::large_buffer();
+    let mut input = io::large_buffer();
     let session = Session::begin(&mut frames, &mut map);
     let count = Line::First.put(&mut out, 0);
     if write_out(to, &out, count) {

@@ -6,6 +6,12 @@ use borrow.Author.Needs.{needs}
 use Rattle.replay_stream.proofs.replay.Statement.{statement}
 use Rattle.replay_stream.proofs.replay.Tie as tie
 
+large-buffer-requires : tie.Need-large-buffer-requires
+large-buffer-requires c κs = search needs
+
+large-buffer-requires-2 : tie.Need-large-buffer-requires-2
+large-buffer-requires-2 c κs = search needs
+
 begin-requires : tie.Need-begin-requires
 begin-requires c κs = search needs
 
@@ -37,6 +43,8 @@ pub replay-spec : {M : Type 1} → statement M
 replay-spec =
     tie.close
     (tie.spec
+    large-buffer-requires
+    large-buffer-requires-2
     begin-requires
     put-requires
     write-out-requires
