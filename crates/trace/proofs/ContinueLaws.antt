@@ -1,6 +1,6 @@
 -- A replay that stopped after some records goes on as if it had not: the texts stand one behind the other.
 use mathlib.Core.Path.{_≡_, refl, _∙_, sym, ap}
-use mathlib.Core.Bool.{Bool, true, false, cond}
+use mathlib.Core.Bool.{Bool, true, false}
 use mathlib.Core.List.{List, [], _++_, append-assoc}
 use Prim.Native.Nat.{ℕ, _+_, _≤_, _<_}
 use native.Mathlib.Omega.{arith}
@@ -13,7 +13,7 @@ use Rattle.trace_records.specs.declared.decoding.Decoded.{Decoded}
 use Rattle.trace_records.specs.declared.decoding.Decoded.the-variants.{Record, Bad, Unfinished}
 use Rattle.trace_lines.proofs.LineLaws.{line-length}
 use Rattle.trace_lines.specs.declared.lines.Line.the-variants.{Answer}
-use Rattle.trace.specs.Replay.{Replay, replay, advance, waiting, advanceBy, advanceOf, after}
+use Rattle.trace.specs.Replay.{Replay, replay, waiting, unlessStopped, advanceOf, after}
 use Rattle.trace.specs.Contracts.{Continues, Advances}
 use Rattle.trace.specs.declared.session.Advanced.{Advanced}
 use Rattle.trace.proofs.ReplayLaws.{took, outcome-advances, advance-stopped, advance-decoded}
@@ -35,7 +35,7 @@ pub advance-continues : (start r left : Replay) (s before now : List ℕ) (n p :
 advance-continues start r left s before now n p x h a = rw (a .keeps, a .takes, a .puts .holds) (continues-more start r s (take p before) n h)
 
 -- a record's text is a line at the most
-text-by : (b : Bool) (r : Replay) (s : List ℕ) (d : Decoded) → length (cond b (advance r (length s) [] false) (advanceBy r s d) .text) ≤ 105
+text-by : (b : Bool) (r : Replay) (s : List ℕ) (d : Decoded) → length (unlessStopped b r s d .text) ≤ 105
 text-by true r s d = omega arith
 text-by false r s (Record c n) = line-length (Answer (numbersOf (step c (r .state) .answer)))
 text-by false r s Bad = omega arith
@@ -59,9 +59,9 @@ advance-gets-on r left s before now p x a h = rw (a .takes) (took r s .1 (sym (a
 
 -- where it does not go on, it waits for more bytes
 waits-by : (b : Bool) (r : Replay) (s : List ℕ) → r .stopped ≡ b → (d : Decoded) → decodeOf s ≡ d
-    → cond b (advance r (length s) [] false) (advanceBy r s d) .more ≡ false
-    → advanceOf (cond b (advance r (length s) [] false) (advanceBy r s d) .left) (drop (cond b (advance r (length s) [] false) (advanceBy r s d) .taken) s)
-    ≡ waiting (cond b (advance r (length s) [] false) (advanceBy r s d) .left)
+    → unlessStopped b r s d .more ≡ false
+    → advanceOf (unlessStopped b r s d .left) (drop (unlessStopped b r s d .taken) s)
+    ≡ waiting (unlessStopped b r s d .left)
 waits-by true r s e d q h = advance-stopped r (drop (length s) s) e ∙ rw (drop-length s)
 waits-by false r s e (Record c n) q h = let z : _≡_ {A = ℕ} 0 1 = cc in absurd (omega arith)
 waits-by false r s e Bad q h = let end = replay (r .state) (r .answered) true in advance-stopped end (drop (length s) s) refl ∙ rw (drop-length s)

@@ -1,6 +1,6 @@
 -- A replay of some bytes goes on from where it got, whatever bytes follow: good and bad records stay so when more bytes come.
 use mathlib.Core.Path.{_≡_, refl, _∙_, sym}
-use mathlib.Core.Bool.{Bool, true, false, cond}
+use mathlib.Core.Bool.{Bool, true, false}
 use mathlib.Core.List.{List, [], _∷_, _++_}
 use Prim.Native.Nat.{ℕ, zero, suc, _+_, _≤_, _<_}
 use native.Mathlib.Omega.{arith}
@@ -11,7 +11,7 @@ use Rattle.trace_records.specs.declared.decoding.Decoded.{Decoded}
 use Rattle.trace_records.specs.declared.decoding.Decoded.the-variants.{Record, Bad, Unfinished}
 use Rattle.trace_records.proofs.DecodeLaws.{record-size, record-stays}
 use Rattle.trace_records.proofs.BadLaws.{bad-stays}
-use Rattle.trace.specs.Replay.{Replay, replay, Advance, advance, advanceBy, advanceOf, Outcome, outcome, after, goOn, recordByRecord, outcomeOf}
+use Rattle.trace.specs.Replay.{Replay, replay, Advance, advance, advanceBy, unlessStopped, advanceOf, Outcome, outcome, after, goOn, recordByRecord, outcomeOf}
 
 -- what a record comes to, by what the bytes are
 pub advance-stopped : (r : Replay) (s : List ℕ) → r .stopped ≡ true → advanceOf r s ≡ advance r (length s) [] false
@@ -24,8 +24,8 @@ advance-decoded r s d e q = rw (e, q)
 
 -- an advance takes no more than there is, and a byte at least where it goes on
 took-by : (b : Bool) (r : Replay) (s : List ℕ) (d : Decoded) → decodeOf s ≡ d
-    → (cond b (advance r (length s) [] false) (advanceBy r s d) .taken ≤ length s)
-    × (cond b (advance r (length s) [] false) (advanceBy r s d) .more ≡ true → 0 < cond b (advance r (length s) [] false) (advanceBy r s d) .taken)
+    → (unlessStopped b r s d .taken ≤ length s)
+    × (unlessStopped b r s d .more ≡ true → 0 < unlessStopped b r s d .taken)
 took-by true r s d e = (omega arith, λ h. (let z : _≡_ {A = ℕ} 0 1 = cc in absurd (omega arith)))
 took-by false r s (Record c n) e = let size = record-size s c n e in (omega arith, λ h. omega arith)
 took-by false r s Bad e = (omega arith, λ h. (let z : _≡_ {A = ℕ} 0 1 = cc in absurd (omega arith)))
@@ -80,8 +80,8 @@ stopped-outcome r s e = one-record r s ∙ rw (e, drop-length s)
 
 advances-by : (r : Replay) (s t : List ℕ) (b : Bool) → r .stopped ≡ b → (d : Decoded) → decodeOf s ≡ d
     → outcomeOf r (s ++ t)
-    ≡ after (cond b (advance r (length s) [] false) (advanceBy r s d) .text)
-    (outcomeOf (cond b (advance r (length s) [] false) (advanceBy r s d) .left) (drop (cond b (advance r (length s) [] false) (advanceBy r s d) .taken) s ++ t))
+    ≡ after (unlessStopped b r s d .text)
+    (outcomeOf (unlessStopped b r s d .left) (drop (unlessStopped b r s d .taken) s ++ t))
 unfolding advanceOf
 advances-by r s t true e d q = stopped-outcome r (s ++ t) e ∙ rw (stopped-outcome r (drop (length s) s ++ t) e)
 advances-by r s t false e (Record c n) q =

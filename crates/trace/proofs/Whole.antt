@@ -1,6 +1,6 @@
 -- Whole logs: how pieces join, what the text of a whole log is, and document 01's cases.
 use mathlib.Core.Path.{_≡_, refl, _∙_, sym, ap}
-use mathlib.Core.Bool.{Bool, true, false, cond}
+use mathlib.Core.Bool.{Bool, true, false}
 use mathlib.Core.List.{List, [], _++_, map, append-nil, append-assoc}
 use Prim.Native.Nat.{ℕ, _+_, _≤_, _<_}
 use native.Mathlib.Omega.{arith}
@@ -28,7 +28,7 @@ use Rattle.trace_records.specs.declared.decoding.Decoded.the-variants.{Record, 
 use Rattle.trace_records.proofs.DecodeLaws.{unfinished-size}
 use Rattle.trace_lines.specs.Line.{numeral, decimal, lineText}
 use Rattle.trace_lines.specs.declared.lines.Line.the-variants.{First}
-use Rattle.trace.specs.Replay.{Replay, Advance, advance, waiting, advanceBy, advanceOf, after, outcome, outcomeOf, freshReplay, closing, replayText}
+use Rattle.trace.specs.Replay.{Replay, Advance, waiting, unlessStopped, advanceOf, after, outcome, outcomeOf, freshReplay, closing, replayText}
 use Rattle.trace.specs.Contracts.{Continues}
 use Rattle.trace.specs.Cases.{cases, found, expected}
 use Rattle.trace.proofs.ReplayLaws.{one-record}
@@ -55,7 +55,7 @@ whole-text left log text n h waits =
 
 -- While a replay waits, the bytes that it has not taken are fewer than those of the longest record.
 held-by : (b : Bool) (r : Replay) (s : List ℕ) (d : Decoded) → r .stopped ≡ b → decodeOf s ≡ d
-    → cond b (advance r (length s) [] false) (advanceBy r s d) ≡ waiting r
+    → unlessStopped b r s d ≡ waiting r
     → length s < 37
 held-by true r s d e q h = let none = ap (λ (a : Advance). a .taken) h in omega arith
 held-by false r s (Record c n) e q h = let on = ap (λ (a : Advance). a .more) h in let z : _≡_ {A = ℕ} 0 1 = cc in absurd (omega arith)

@@ -53,8 +53,13 @@ advanceBy r s (Record c n) =
 advanceBy r s Bad = advance (replay (r .state) (r .answered) true) (length s) (lineText line.Bad) false
 advanceBy r s Unfinished = waiting r
 
+-- and so are those that come later
+abbrev pub unlessStopped : Bool → Replay → List ℕ → Decoded → Advance
+unlessStopped true r s d = advance r (length s) [] false
+unlessStopped false r s d = advanceBy r s d
+
 unfoldable pub advanceOf : Replay → List ℕ → Advance
-advanceOf r s = cond (r .stopped) (advance r (length s) [] false) (advanceBy r s (decodeOf s))
+advanceOf r s = unlessStopped (r .stopped) r s (decodeOf s)
 
 -- what some bytes come to: the text of their records, what is kept then, and the bytes of a record that is not finished
 pub record Outcome : Type 0 where

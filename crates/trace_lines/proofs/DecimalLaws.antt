@@ -31,8 +31,11 @@ unfolding decimal
 decimal-short n = numeral-short 20 n
 
 -- a cell takes at most 21 bytes
+pub cell-short : (x e : ℕ) → length (cell x e) ≤ 21
+cell-short x e = omega (arith, length-append (decimal x) (e ∷ []), decimal-short x)
+
 pub after-cell : (x e : ℕ) {b a : List ℕ} {n r : ℕ} → Puts b n (cell x e) a r → r ≤ n + 21
-after-cell x e p = omega (arith, length-append (decimal x) (e ∷ []), decimal-short x)
+after-cell x e p = omega (arith, cell-short x e)
 
 -- a number of 64 bits has at most 20 digits
 digits-few-by : (n k : ℕ) → Fits w64 n → (1 < k → 10 ^ (k - 1) ≤ n) → (b : Bool) → leb k 20 ≡ b → k ≤ 20

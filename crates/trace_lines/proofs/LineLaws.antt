@@ -1,17 +1,13 @@
 -- Lines as a whole: the longest has 105 bytes, and one that has room is put whole.
 use mathlib.Core.Path.{_≡_}
-use mathlib.Core.List.{[], _∷_}
 use Prim.Native.Nat.{ℕ, _+_, _≤_}
 use native.Mathlib.Omega.{arith}
 use borrow.Author.Tests.{le-leb}
 use lib.ListN.{length, length-append}
-use Rattle.trace_lines.specs.Line.{decimal, cell, lineText, textPut}
+use Rattle.trace_lines.specs.Line.{lineText, textPut}
 use Rattle.trace_lines.specs.declared.lines.Line.{Line}
 use Rattle.trace_lines.specs.declared.lines.Line.the-variants.{First, Answer, Bad, Last}
-use Rattle.trace_lines.proofs.DecimalLaws.{decimal-short}
-
-cell-length : (n end : ℕ) → length (cell n end) ≤ 21
-cell-length n end = omega (arith, length-append (decimal n) (end ∷ []), decimal-short n)
+use Rattle.trace_lines.proofs.DecimalLaws.{decimal-short, cell-short}
 
 pub line-length : (l : Line) → length (lineText l) ≤ 105
 line-length First = omega arith
@@ -19,7 +15,7 @@ line-length (Answer a) =
     simp length-append
     (omega (arith, decimal-short (a .verdict), decimal-short (a .v0), decimal-short (a .v1), decimal-short (a .v2), decimal-short (a .v3)))
 line-length Bad = omega arith
-line-length (Last n) = omega (arith, cell-length n 10)
+line-length (Last n) = omega (arith, cell-short n 10)
 
 pub textPut-room : (n : ℕ) (l : Line) → n + 105 ≤ 65536 → textPut n l ≡ lineText l
 textPut-room n l h = rw (le-leb n 65431 (omega arith))
