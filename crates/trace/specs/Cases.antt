@@ -19,21 +19,25 @@ exampleLog =
     ++ (header 3 3
     ++ (header 35 4 ++ (argument 0xC6 0 0 3 ++ (argument 0 0 0x50 0 ++ (argument 0 0 0 1 ++ argument 0 0 0 0))))))))
 
--- three records of five numbers that are zero
+-- "monitor 1"
+abbrev pub firstLine : List ℕ
+firstLine = 109 ∷ 111 ∷ 110 ∷ 105 ∷ 116 ∷ 111 ∷ 114 ∷ 32 ∷ 49 ∷ 10 ∷ []
+
+-- "0 0 0 0 0"
 abbrev pub zeros : List ℕ
 zeros = 48 ∷ 32 ∷ 48 ∷ 32 ∷ 48 ∷ 32 ∷ 48 ∷ 32 ∷ 48 ∷ 10 ∷ []
 
 -- "monitor 1", "0 0 0 0 0" three times, "10 0 1 0 0", "end 4"
 abbrev pub exampleText : List ℕ
 exampleText =
-    (109 ∷ 111 ∷ 110 ∷ 105 ∷ 116 ∷ 111 ∷ 114 ∷ 32 ∷ 49 ∷ 10 ∷ [])
+    firstLine
     ++ (zeros ++ (zeros ++ (zeros
     ++ ((49 ∷ 48 ∷ 32 ∷ 48 ∷ 32 ∷ 49 ∷ 32 ∷ 48 ∷ 32 ∷ 48 ∷ 10 ∷ [])
     ++ (101 ∷ 110 ∷ 100 ∷ 32 ∷ 52 ∷ 10 ∷ [])))))
 
 -- "Empty input prints the first line and `end 0`."
 abbrev pub emptyText : List ℕ
-emptyText = (109 ∷ 111 ∷ 110 ∷ 105 ∷ 116 ∷ 111 ∷ 114 ∷ 32 ∷ 49 ∷ 10 ∷ []) ++ (101 ∷ 110 ∷ 100 ∷ 32 ∷ 48 ∷ 10 ∷ [])
+emptyText = firstLine ++ (101 ∷ 110 ∷ 100 ∷ 32 ∷ 48 ∷ 10 ∷ [])
 
 -- a log, and the whole output of its replay
 pub data LogCase : Type 0 where

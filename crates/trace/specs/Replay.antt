@@ -53,7 +53,7 @@ advanceBy r s (Record c n) =
 advanceBy r s Bad = advance (replay (r .state) (r .answered) true) (length s) (lineText line.Bad) false
 advanceBy r s Unfinished = waiting r
 
--- and so are those that come later
+-- after a bad record, those that come later are passed over too
 abbrev pub unlessStopped : Bool → Replay → List ℕ → Decoded → Advance
 unlessStopped true r s d = advance r (length s) [] false
 unlessStopped false r s d = advanceBy r s d
