@@ -1,6 +1,9 @@
 -- Document 01: every call of the host and of a guest, as one function over one state.
 use mathlib.Core.List.{List, [], _∷_}
-use Rattle.records.specs.State.{State, Answered, answered}
+use Prim.Native.Nat.{ℕ, _*_}
+use lib.ListN.{replicate}
+use Rattle.records.specs.Monitor.{fresh}
+use Rattle.records.specs.State.{State, state, Answered, answered}
 use Rattle.guest.specs.Calls.{hypercallOf, abortOf}
 use Rattle.host_registers.specs.Registers.{registerReadOf, registerWriteOf}
 use Rattle.host_donation.specs.Calls.{donateOf}
@@ -30,3 +33,7 @@ step (Abort v a) s = abortOf v a s
 abbrev pub stateAfter : List Call → State → State
 stateAfter [] s = s
 stateAfter (c ∷ cs) s = stateAfter cs (step c s .left)
+
+-- "Fresh tables and records are all zero.": F frame words and 8 × W map words
+abbrev pub freshState : ℕ → ℕ → State
+freshState F W = state (replicate F 0) (replicate (8 * W) 0) fresh

@@ -3,11 +3,10 @@ use mathlib.Core.Bool.{Bool, true, false, cond}
 use mathlib.Core.List.{List, [], _++_}
 use Prim.Native.Nat.{ℕ, zero, suc, _+_, _*_, _%_, _^_}
 use lib.Dec.{eqb}
-use lib.ListN.{length, drop, replicate}
+use lib.ListN.{length, drop}
 use Rattle.records.specs.Answer.{numbersOf}
-use Rattle.records.specs.Monitor.{fresh}
-use Rattle.records.specs.State.{State, state}
-use Rattle.calls.specs.Step.{step}
+use Rattle.records.specs.State.{State}
+use Rattle.calls.specs.Step.{step, freshState}
 use Rattle.trace_records.specs.Record.{decodeOf}
 use Rattle.trace_records.specs.declared.decoding.Decoded.{Decoded}
 use Rattle.trace_records.specs.declared.decoding.Decoded.the-variants.{Record, Bad, Unfinished}
@@ -25,7 +24,7 @@ replay s n b = record { state = s; answered = n; stopped = b }
 
 -- "Fresh tables and records are all zero"; "F is 256, W is 64."
 abbrev pub freshReplay : Replay
-freshReplay = replay (state (replicate 256 0) (replicate (8 * 64) 0) fresh) 0 false
+freshReplay = replay (freshState 256 64) 0 false
 
 -- one record more; a log of 2^64 records can't be had, and the number would begin anew
 abbrev pub oneMore : ℕ → ℕ
