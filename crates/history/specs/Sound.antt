@@ -1,0 +1,38 @@
+-- The exact invariant: what holds of tables and records in every history. Document 01, "Tables": "Histories start from fresh tables, and
+-- only these calls write them."
+use mathlib.Core.Path.{_≡_}
+use mathlib.Core.Bool.{Bool, true, false}
+use Prim.Native.Nat.{ℕ, _<_}
+use lib.ListN.{length}
+use Rattle.tables.specs.Length.{widthOf, lengthsHold}
+use Rattle.tables.specs.Pair.{pairAt, pairOf, frameUndamaged}
+use Rattle.tables.specs.declared.pairs.GranuleState.{GranuleState}
+use Rattle.tables.specs.declared.pairs.GranuleState.the-variants.{Vacant, Frame, Guarded, Damaged}
+use Rattle.records.specs.Monitor.{zeroGuest, guestOf}
+use Rattle.records.specs.State.{State}
+use Rattle.records.specs.declared.guest.Guest.{Guest}
+use Rattle.host_registers.specs.Registers.{bitmapOf, withinLimit}
+use Rattle.host_registers.specs.declared.registers.FirmwareRegister.{FirmwareRegister}
+
+-- "A dead slot's record is all zero in any history"; every bitmap is within its limit; only a guest that has run can have enrolled
+pub record SoundRecord (g : Guest) : Type 0 where
+  pub dead : g .live ≡ false → g ≡ zeroGuest
+  pub limits : (r : FirmwareRegister) → withinLimit r (bitmapOf r g) ≡ true
+  pub enrolled : g .enrolled ≡ true → g .run ≡ true
+
+-- what a granule of a guest with this record can hold: a private frame if it is live, a shared one if it has run, guarded MMIO if it has
+-- enrolled. So a dead slot's row is vacant.
+abbrev pub mayHold : Guest → GranuleState → Bool
+mayHold g Vacant = true
+mayHold g (Frame false f) = g .live
+mayHold g (Frame true f) = g .run
+mayHold g Guarded = g .enrolled
+mayHold g Damaged = false
+
+-- Both pair tests find no damage anywhere, so each word that names a partner is named back.
+pub record Sound (s : State) : Type 0 where
+  pub lengths : lengthsHold (length (s .frames)) (length (s .map)) ≡ true
+  pub slots : length (s .monitor .guests) ≡ 8
+  pub records : (v : ℕ) → v < 8 → SoundRecord (guestOf (s .monitor) v)
+  pub granules : (v g : ℕ) → v < 8 → g < widthOf (length (s .map)) → mayHold (guestOf (s .monitor) v) (pairAt (s .frames) (s .map) v g) ≡ true
+  pub frames : (f : ℕ) → f < length (s .frames) → frameUndamaged (pairOf (s .frames) (s .map) f) ≡ true
