@@ -1,0 +1,112 @@
+-- Donate, cleared and access keep what every call keeps.
+use mathlib.Core.Path.{_≡_, refl, _∙_}
+use mathlib.Core.Logic.{_≢_}
+use mathlib.Core.Bool.{false, cond}
+use Prim.Native.Nat.{ℕ}
+use borrow.Author.Tests.{eq-eqb, ne-eqb}
+use lib.Dec.{eqb}
+use Rattle.words.specs.declared.map_word.MapWord.the-variants as map-word
+use Rattle.words.specs.declared.frame_word.FrameWord.the-variants as frame-word
+use Rattle.records.specs.Answer.{numbersOf}
+use Rattle.records.specs.Monitor.{guestOf}
+use Rattle.records.specs.State.{State}
+use Rattle.records.proofs.MonitorLaws.{live-slot}
+use Rattle.host_donation.specs.Calls.{donateTests, donated, donateOf}
+use Rattle.host_frames.specs.Calls.{accessTests, clearedTests, handedBack, accessTold, clearedOf, hostAccessOf}
+use Rattle.calls.specs.declared.call.Call.the-variants.{Donate, Cleared, Access}
+use Rattle.history.specs.Log.{FrameChange}
+use Rattle.history.specs.Log as log
+use Rattle.history.proofs.Seen.{own, look, lengths-hold, width-is, at-or-not}
+use Rattle.history.proofs.Seats.{Seated}
+use Rattle.history.proofs.SoundLaws.{granule-found, frame-found, frame-sound}
+use Rattle.history.proofs.Moves.{Tied, tied-named, tied-apart, FrameFree, own-paired, own-unpaired, paired-seated, own-freed, own-unfreed, freed-seated}
+use Rattle.history.proofs.Held.{ownerAfter}
+use Rattle.history.proofs.Looks.{hosts-word, waiting-word, vacant-word, granule-undamaged, below-frames, below-width}
+use Rattle.history.proofs.Kept.{Kept, sure, tests-kept}
+
+-- a call about one frame, which says so in the log
+one-logged : (s t : State) (f : ℕ) (c : FrameChange) → own t f ≡ ownerAfter c → ((k : ℕ) → k ≢ f → own t k ≡ own s k)
+    → (k : ℕ) (x : FrameChange) → own s k ≡ ownerAfter x → own t k ≡ ownerAfter (cond (eqb k f) c x)
+one-logged s t f c here there k x =
+    at-or-not (λ n. own s n ≡ ownerAfter x → own t n ≡ ownerAfter (cond (eqb n f) c x)) f k
+    (λ e. rw (eq-eqb f f refl) here)
+    (λ n e. rw (ne-eqb k f n) (there k n ∙ e))
+
+module _ {F W : ℕ} {s : State} (i : Seated F W s) where
+  pub keep-donate : (v f g : ℕ) → Kept F W s (Donate v f g) (donateOf v f g s)
+  unfolding donateOf numbersOf own
+  keep-donate v f g =
+      tests-kept i (Donate v f g) (donateTests (s .frames) (s .map) v f g (guestOf (s .monitor) v)) (donated v f g s) (
+        sure _ (lengths-hold (i .sized)),
+        λ a. (
+          λ q. (refl, refl),
+          λ live. (
+            λ q. (refl, refl),
+            λ hf. (
+              λ q. (refl, refl),
+              λ hg. (
+                sure _ (granule-undamaged i v g (live-slot (s .monitor) v live) (below-width i g hg)),
+                λ b. (
+                  sure _ (frame-sound i f (below-frames i f hf)),
+                  λ c. (
+                    λ q. (refl, refl),
+                    λ d.
+                        (λ q. (refl, refl), λ e. tt),
+                  ),
+                ),
+              ),
+            ),
+          ),
+        ),
+      )
+      (λ p.
+      let live = p .1 .0 in
+      let slot = live-slot (s .monitor) v live in
+      let inside = below-frames i f (p .1 .1 .0) in
+      let below = below-width i g (p .1 .1 .1 .0) in
+      let host : own s f ≡ frame-word.Host = hosts-word (own s f) (rw (frame-found i f inside) at (p .1 .1 .1 .1 .1 .1 .0)) in
+      let vacant : look W s v g ≡ map-word.Vacant = vacant-word (look W s v g) (rw (granule-found i v g slot below) at (p .1 .1 .1 .1 .1 .1 .1 .0)) in
+      let old : Tied v g f (own s f) (look W s v g) = rw (host, vacant) (tied-apart v g f frame-word.Host map-word.Vacant tt tt) in
+      let d = frame-word.Owned v false g in
+      let e = map-word.Frame false f in
+      let new = tied-named v g f false in
+      record {
+        seated = rw (width-is (i .sized)) (paired-seated i v g f slot below inside old d e new live);
+        logged = λ k l x q.
+            one-logged s (donated v f g s .left) f (log.donated v g) (own-paired i v g f slot below inside old d e new live)
+            (λ j n. own-unpaired i v g f slot below inside old d e new live j n) k x q;
+        unhurt = refl;
+      })
+
+  pub keep-cleared : (f : ℕ) → Kept F W s (Cleared f) (clearedOf f s)
+  unfolding clearedOf numbersOf
+  keep-cleared f =
+      tests-kept i (Cleared f) (clearedTests (s .frames) (s .map) f) (handedBack f s) (
+        sure _ (lengths-hold (i .sized)),
+        λ a. (
+          λ q. (refl, refl),
+          λ hf. (
+            sure _ (frame-sound i f (below-frames i f hf)),
+            λ b.
+                (λ q. (refl, refl), λ c. tt),
+          ),
+        ),
+      )
+      (λ p.
+      let inside = below-frames i f (p .1 .0) in
+      let waits : own s f ≡ frame-word.Waiting = waiting-word (own s f) (rw (frame-found i f inside) at (p .1 .1 .1 .0)) in
+      let free : FrameFree (own s f) = rw waits tt in
+      record {
+        seated = freed-seated i f inside free frame-word.Host tt;
+        logged = λ k l x q.
+            one-logged s (handedBack f s .left) f log.cleared (own-freed i f inside free frame-word.Host tt)
+            (λ j n. own-unfreed i f inside free frame-word.Host tt j n) k x q;
+        unhurt = refl;
+      })
+
+  pub keep-access : (f : ℕ) → Kept F W s (Access f) (hostAccessOf f s)
+  unfolding hostAccessOf numbersOf
+  keep-access f =
+      tests-kept i (Access f) (accessTests (s .frames) (s .map) f) (accessTold f s)
+      (sure _ (lengths-hold (i .sized)), λ a. (λ q. (refl, refl), λ hf. (sure _ (frame-sound i f (below-frames i f hf)), λ b. tt)))
+      (λ p. record { seated = i; logged = λ k l x q. q; unhurt = refl })

@@ -1,0 +1,121 @@
+-- What holds of every history: any calls, with any arguments, refused ones too, from fresh tables of any lengths that document 01 allows.
+use mathlib.Core.Path.{_≡_, refl, ap, _∙_}
+use mathlib.Core.Logic.{_≢_}
+use mathlib.Core.Bool.{Bool, true, false, not}
+use mathlib.Core.List.{List}
+use Prim.Native.Nat.{ℕ, _*_, _/_, _%_, _<_, _≤_}
+use native.Mathlib.Omega.{arith}
+use borrow.Author.Tests.{lt-ltb, le-ltb, le-leb, eq-eqb}
+use lib.Dec.{eqb}
+use Rattle.words.specs.MapWord.{mapWordOf}
+use Rattle.words.specs.declared.map_word.MapWord.the-variants as map-word
+use Rattle.words.specs.declared.frame_word.FrameWord.{FrameWord}
+use Rattle.words.proofs.Booleans.{both-true}
+use Rattle.tables.specs.Length.{framesHold, mapHolds, lengthsHold}
+use Rattle.tables.specs.Row.{wordAt}
+use Rattle.tables.specs.Pair.{pairOf}
+use Rattle.tables.specs.declared.pairs.FrameState.{FrameState}
+use Rattle.tables.specs.declared.pairs.FrameState.the-variants as frame-state
+use Rattle.records.specs.Answer.{numbersOf, verdictWith}
+use Rattle.records.specs.State.{State}
+use Rattle.host_frames.specs.Calls.{openTo, hostAccessOf}
+use Rattle.calls.specs.Step.{step, stateAfter, freshState}
+use Rattle.calls.specs.declared.call.Call.{Call}
+use Rattle.calls.specs.declared.call.Call.the-variants.{Access}
+use Rattle.history.specs.Log.{FrameChange, neverDonated, donated, shared, unshared, relinquished, ownerRemoved, cleared, openAfter, lastChange}
+use Rattle.history.specs.History.{logOf, privateOrWaiting}
+use Rattle.history.specs.Sound.{Sound}
+use Rattle.history.proofs.Seen.{own, look, lengths-hold, width-is}
+use Rattle.history.proofs.Seats.{Seated}
+use Rattle.history.proofs.SoundLaws.{frameBy, frame-found, frame-sound, seated-sound, sound-seated}
+use Rattle.history.proofs.Held.{ownerAfter}
+use Rattle.history.proofs.CallsKept.{keep, calls-seated, calls-logged, fresh-own, fresh-seated}
+
+-- access answers for a frame that its word says to be so
+access-seen : {F W : ℕ} {s : State} → Seated F W s → (f : ℕ) → f < F → numbersOf (step (Access f) s .answer) ≡ verdictWith 0 (openTo (frameBy (own s f)))
+unfolding step hostAccessOf numbersOf
+access-seen {F} i f h = rw (lengths-hold (i .sized), i .sized .frame-words, lt-ltb f F h, frame-sound i f h, frame-found i f h)
+
+open-after : (c : FrameChange) → openTo (frameBy (ownerAfter c)) ≡ openAfter c
+open-after neverDonated = refl
+open-after (donated v g) = refl
+open-after (shared v g) = refl
+open-after (unshared v g) = refl
+open-after relinquished = refl
+open-after ownerRemoved = refl
+open-after cleared = refl
+
+other-than : (q n : ℕ) → not (eqb q n) ≡ true → q ≢ n
+other-than q n h e =
+    let t : not (eqb q n) ≡ false = rw (eq-eqb q n e) in
+    let z : _≡_ {A = ℕ} 0 1 = cc in
+    omega arith
+
+closed : (k : FrameState) → privateOrWaiting k ≡ true → openTo k ≡ 0
+closed frame-state.Host h = cc
+closed frame-state.Waiting h = refl
+closed (frame-state.Owned v true g) h = cc
+closed (frame-state.Owned v false g) h = refl
+closed frame-state.Damaged h = cc
+
+-- Of the exact invariant: every call keeps it.
+pub calls-keep-sound : (c : Call) (s : State) → Sound s → Sound (step c s .left)
+calls-keep-sound c s k = seated-sound (keep (sound-seated k) c .seated)
+
+-- F frame words and 8 × W map words, and calls from there
+module _ (F W : ℕ) (frames-some : 1 ≤ F) (frames-few : F ≤ 16384) (width-some : 1 ≤ W) (width-few : W ≤ 4096) where
+  allowed : lengthsHold F (8 * W) ≡ true
+  unfolding framesHold mapHolds
+  allowed =
+      let eights : 8 * W % 8 ≡ 0 = omega arith in
+      let width : 8 * W / 8 ≡ W = omega arith in
+      rw (eights, width, le-leb 1 F frames-some, le-leb F 16384 frames-few, le-leb 1 W width-some, le-leb W 4096 width-few)
+
+  seated : (cs : List Call) → Seated F W (stateAfter cs (freshState F W))
+  seated cs = calls-seated cs (freshState F W) (fresh-seated F W allowed)
+
+  -- it holds of fresh tables, and so in every history
+  pub histories-are-sound : (cs : List Call) → Sound (stateAfter cs (freshState F W))
+  histories-are-sound cs = seated-sound (seated cs)
+
+  -- Condition 2: "After any calls from fresh tables, the host may access a frame exactly when it was never donated, or the last change to it
+  -- was a share by its owner or a confirmed clearing, read off the history of calls and answers, not off our tables."
+  pub host-access-by-history : (cs : List Call) (f : ℕ) → f < F
+      → numbersOf (step (Access f) (stateAfter cs (freshState F W)) .answer) ≡ verdictWith 0 (openAfter (lastChange (logOf cs (freshState F W)) f))
+  host-access-by-history cs f h =
+      access-seen (seated cs) f h
+      ∙ ap (λ (d : FrameWord). verdictWith 0 (openTo (frameBy d))) (calls-logged cs (freshState F W) (fresh-seated F W allowed) f h neverDonated (fresh-own F W allowed f h))
+      ∙ ap (verdictWith 0) (open-after (lastChange (logOf cs (freshState F W)) f))
+
+  -- and a number of no frame is refused
+  pub no-such-frame : (cs : List Call) (f : ℕ) → F ≤ f → numbersOf (step (Access f) (stateAfter cs (freshState F W)) .answer) ≡ verdictWith 4 0
+  unfolding step hostAccessOf numbersOf
+  no-such-frame cs f h = rw (lengths-hold (seated cs .sized), seated cs .sized .frame-words, le-ltb f F h)
+
+  -- In any history no call answers verdict 1 or 6.
+  pub no-damage-in-histories : (cs : List Call) (c : Call)
+      → (numbersOf (step c (stateAfter cs (freshState F W)) .answer) .verdict ≢ 1) × (numbersOf (step c (stateAfter cs (freshState F W)) .answer) .verdict ≢ 6)
+  no-damage-in-histories cs c =
+      let q = numbersOf (step c (stateAfter cs (freshState F W)) .answer) .verdict in
+      let p = both-true (not (eqb q 1)) (not (eqb q 6)) (keep (seated cs) c .unhurt) in
+      (other-than q 1 (p .0), other-than q 6 (p .1))
+
+  -- A frame that is private or waiting is never accessible.
+  pub private-or-waiting-closed : (cs : List Call) (f : ℕ) → f < F
+      → privateOrWaiting (pairOf (stateAfter cs (freshState F W) .frames) (stateAfter cs (freshState F W) .map) f) ≡ true
+      → numbersOf (step (Access f) (stateAfter cs (freshState F W)) .answer) ≡ verdictWith 0 0
+  private-or-waiting-closed cs f h e =
+      let s = stateAfter cs (freshState F W) in
+      access-seen (seated cs) f h ∙ ap (verdictWith 0) (closed (frameBy (own s f)) (rw (frame-found (seated cs) f h) at e))
+
+  -- Two granules never name one frame.
+  pub one-granule-per-frame : (cs : List Call) (v g u h f : ℕ) (b c : Bool) → v < 8 → g < W → u < 8 → h < W
+      → mapWordOf (wordAt (stateAfter cs (freshState F W) .map) v g) ≡ map-word.Frame b f
+      → mapWordOf (wordAt (stateAfter cs (freshState F W) .map) u h) ≡ map-word.Frame c f
+      → (v ≡ u) × (g ≡ h)
+  unfolding look
+  one-granule-per-frame cs v g u h f b c hv hg hu hh p q =
+      let i = seated cs in
+      let first = i .back v b g f hv hg (rw (width-is (i .sized)) at p) .1 in
+      let second = i .back u c h f hu hh (rw (width-is (i .sized)) at q) .1 in
+      (cc, cc)

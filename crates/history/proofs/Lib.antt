@@ -1,0 +1,17 @@
+pub mod Seen
+pub mod Seats
+pub mod SoundLaws
+pub mod Moves
+pub mod Removal
+pub mod Held
+pub mod Taken
+pub mod Ranges
+pub mod Kept
+pub mod Looks
+pub mod FrameCalls
+pub mod SlotCalls
+pub mod Asked
+pub mod Undamaged
+pub mod GuestCalls
+pub mod CallsKept
+pub mod History

@@ -1,0 +1,213 @@
+-- A step that is taken, and a range of them, keep the invariant, and change the frames at these granules and no others.
+use mathlib.Core.Path.{_≡_, refl, sym, ap, _∙_}
+use mathlib.Core.Logic.{_≢_}
+use mathlib.Core.Bool.{Bool, true, false, cond}
+use mathlib.Core.List.{List}
+use Prim.Native.Nat.{ℕ, suc, _+_, _<_}
+use native.Mathlib.Omega.{arith}
+use lib.ListN.{length, set}
+use Rattle.runs.specs.Run.{took, run}
+use Rattle.runs.proofs.Kept.{Holds, kept}
+use Rattle.words.specs.MapWord.{mapBits, mapWordOf}
+use Rattle.words.specs.FrameWord.{frameBits}
+use Rattle.words.specs.declared.map_word.MapWord.{MapWord}
+use Rattle.words.specs.declared.map_word.MapWord.the-variants as map-word
+use Rattle.words.specs.declared.frame_word.FrameWord.the-variants as frame-word
+use Rattle.tables.specs.Length.{widthOf}
+use Rattle.tables.specs.Row.{wordIndex, wordAt}
+use Rattle.tables.specs.Pair.{granuleState}
+use Rattle.tables.specs.declared.pairs.GranuleState.{GranuleState}
+use Rattle.tables.specs.declared.pairs.GranuleState.the-variants as granule-state
+use Rattle.tables.proofs.Found.{mapWordBy, granule-says}
+use Rattle.records.specs.Monitor.{guestOf}
+use Rattle.records.specs.State.{State, state}
+use Rattle.records.specs.declared.guest.Guest.{Guest}
+use Rattle.records.specs.declared.monitor.Monitor.{Monitor}
+use Rattle.granules.specs.Kind.{isOf, bare, wordWith, frameThen, changeOf}
+use Rattle.granules.specs.Step.{Place, place, tableStep}
+use Rattle.granules.specs.declared.kinds.Kind.{Kind}
+use Rattle.granules.specs.declared.kinds.Kind.the-variants.{Vacant, Private, Shared, Guarded}
+use Rattle.granules.specs.declared.kinds.Operation.{Operation}
+use Rattle.granules.specs.declared.kinds.Change.the-variants.{Refused, Bare, WithFrame}
+use Rattle.granules.proofs.ChangeLaws.{with-frame, writable}
+use Rattle.history.specs.Log.{among}
+use Rattle.history.specs.Sound.{mayHold}
+use Rattle.history.proofs.Seen.{own, look, width-is, at-or-not}
+use Rattle.history.proofs.Seats.{stateBy, Seated}
+use Rattle.history.proofs.Moves.{never, Tied, tied-named, tied-apart, NamesNone, own-paired, own-unpaired, paired-seated, bared-seated}
+use Rattle.history.proofs.Held.{heldThen, held-none, held-next, held-here, held-elsewhere}
+use Rattle.history.proofs.Taken.{step-wrote}
+
+-- what a guest may make of its granules
+abbrev pub mayMake : Guest → Kind → Bool
+mayMake g Vacant = true
+mayMake g Private = g .live
+mayMake g Shared = g .run
+mayMake g Guarded = g .enrolled
+
+-- whether a granule of a kind has a frame
+abbrev pub hasFrame : Kind → Bool
+hasFrame Vacant = false
+hasFrame Private = true
+hasFrame Shared = true
+hasFrame Guarded = false
+
+may-word : (guest : Guest) (k : Kind) (f : ℕ) → mayMake guest k ≡ true → mayHold guest (stateBy (wordWith k f)) ≡ true
+may-word guest Vacant f h = h
+may-word guest Private f h = h
+may-word guest Shared f h = h
+may-word guest Guarded f h = h
+
+-- a granule without a frame gets a word without one
+record Barely (o : Operation) (k : GranuleState) (w : ℕ) : Type 0 where
+  before : NamesNone (mapWordBy k)
+  undamaged : k ≢ granule-state.Damaged
+  word : w ≡ mapBits (wordWith (o .makes) 0)
+  after : NamesNone (wordWith (o .makes) 0)
+
+bare-kind : (m : Kind) (w : ℕ) → Bare w ≡ bare m → (w ≡ mapBits (wordWith m 0)) × NamesNone (wordWith m 0)
+bare-kind Vacant w e = (cc, tt)
+bare-kind Private w e = let z : _≡_ {A = ℕ} 0 1 = cc in absurd (omega arith)
+bare-kind Shared w e = let z : _≡_ {A = ℕ} 0 1 = cc in absurd (omega arith)
+bare-kind Guarded w e = (cc, tt)
+
+bare-if : (x : Bool) (m : Kind) (w : ℕ) → Bare w ≡ cond x (bare m) Refused → Bare w ≡ bare m
+bare-if true m w e = e
+bare-if false m w e = let z : _≡_ {A = ℕ} 0 1 = cc in absurd (omega arith)
+
+frame-if : (x : Bool) (f w : ℕ) → Bare w ≡ cond x (WithFrame f) Refused → ⊥
+frame-if true f w e = let z : _≡_ {A = ℕ} 0 1 = cc in omega arith
+frame-if false f w e = let z : _≡_ {A = ℕ} 0 1 = cc in omega arith
+
+barely : (o : Operation) (k : GranuleState) (w : ℕ) → Bare w ≡ changeOf o k → Barely o k w
+unfolding changeOf
+barely o granule-state.Vacant w e =
+    let p = bare-kind (o .makes) w (bare-if (isOf (o .needs) granule-state.Vacant) (o .makes) w e) in
+    record { before = tt; undamaged = λ q. let z : _≡_ {A = ℕ} 0 1 = cc in omega arith; word = p .0; after = p .1 }
+barely o (granule-state.Frame b f) w e = absurd (frame-if (isOf (o .needs) (granule-state.Frame b f)) f w e)
+barely o granule-state.Guarded w e =
+    let p = bare-kind (o .makes) w (bare-if (isOf (o .needs) granule-state.Guarded) (o .makes) w e) in
+    record { before = tt; undamaged = λ q. let z : _≡_ {A = ℕ} 0 1 = cc in omega arith; word = p .0; after = p .1 }
+barely o granule-state.Damaged w e = let z : _≡_ {A = ℕ} 0 1 = cc in absurd (omega arith)
+
+-- the words of a frame and its granule that becomes of a kind
+tied-then : (k : Kind) (v g f : ℕ) → Tied v g f (frameThen k v g) (wordWith k f)
+tied-then Vacant v g f = tied-apart v g f frame-word.Waiting map-word.Vacant tt tt
+tied-then Private v g f = tied-named v g f false
+tied-then Shared v g f = tied-named v g f true
+tied-then Guarded v g f = tied-apart v g f frame-word.Waiting map-word.Guarded tt tt
+
+-- a granule with a frame is not of a kind without one
+framed-if : (x : Bool) (f k : ℕ) → WithFrame f ≡ cond x (WithFrame k) Refused → x ≡ true
+framed-if true f k e = refl
+framed-if false f k e = let z : _≡_ {A = ℕ} 0 1 = cc in absurd (omega arith)
+
+framed : (o : Operation) (b : Bool) (f : ℕ) → WithFrame f ≡ changeOf o (granule-state.Frame b f) → hasFrame (o .needs) ≡ true
+unfolding changeOf
+framed o b f e = on (o .needs) (framed-if (isOf (o .needs) (granule-state.Frame b f)) f f e)
+  where
+    on : (k : Kind) → isOf k (granule-state.Frame b f) ≡ true → hasFrame k ≡ true
+    on Vacant h = h
+    on Private h = refl
+    on Shared h = refl
+    on Guarded h = h
+
+-- a granule names one frame
+one-frame : (d : MapWord) (a b : Bool) (f k : ℕ) → d ≡ map-word.Frame a f → d ≡ map-word.Frame b k → k ≡ f
+one-frame d a b f k p q = cc
+
+module _ (F W : ℕ) (m : Monitor) (o : Operation) (v : ℕ) where
+  -- from s, at granule g, to a place n granules on
+  pub record Reached (s : State) (g n : ℕ) (map frames : List ℕ) (next : ℕ) : Type 0 where
+    pub at : next ≡ g + n
+    pub seated : Seated F W (state frames map m)
+    pub owners : (f : ℕ) → f < F → own (state frames map m) f ≡ heldThen (among v g n) (frameThen (o .makes)) (own s f)
+    pub same : hasFrame (o .needs) ≡ false → (f : ℕ) → f < F → own (state frames map m) f ≡ own s f
+
+  abbrev pub ReachedAt : State → ℕ → ℕ → Place → Type 0
+  ReachedAt s g n (place map frames next) = Reached s g n map frames next
+
+module _ (F W : ℕ) (m : Monitor) (o : Operation) (v : ℕ) (hv : v < 8) (may : mayMake (guestOf m v) (o .makes) ≡ true) where
+  module _ (map frames : List ℕ) (g : ℕ) (i : Seated F W (state frames map m)) (hg : g < widthOf (length map)) where
+    abbrev s : State
+    s = state frames map m
+
+    abbrev found : GranuleState
+    found = granuleState frames v g (mapWordOf (wordAt map v g))
+
+    below : g < W
+    below = omega (arith, width-is (i .sized))
+
+    seen : mapWordOf (wordAt map v g) ≡ look W s v g
+    unfolding look
+    seen = rw (width-is (i .sized))
+
+    bare-reached : (w : ℕ) → Bare w ≡ changeOf o found → ReachedAt F W m o v s g 1 (place (set map (wordIndex (length map) v g) w) frames (suc g))
+    unfolding own
+    bare-reached w e =
+        let k = barely o found w e in
+        let says : look W s v g ≡ mapWordBy found = sym seen ∙ granule-says frames v g (mapWordOf (wordAt map v g)) found refl (k .undamaged) in
+        let none : NamesNone (look W s v g) = rw says (k .before) in
+        record {
+          at = omega arith;
+          seated = rw (k .word, width-is (i .sized)) (bared-seated i v g hv below none (wordWith (o .makes) 0) (k .after) (may-word (guestOf m v) (o .makes) 0 may));
+          owners = λ f h. sym (held-elsewhere (frameThen (o .makes)) v g (own s f) (λ b q. rw (i .seat v b g f h q .2) at none));
+          same = λ q f h. refl;
+        }
+
+    frame-reached : (f : ℕ) → WithFrame f ≡ changeOf o found
+        → ReachedAt F W m o v s g 1 (place (set map (wordIndex (length map) v g) (mapBits (wordWith (o .makes) f))) (set frames f (frameBits (frameThen (o .makes) v g))) (suc g))
+    unfolding own
+    frame-reached f e =
+        let k = writable o frames v g (wordAt map v g) found refl f e in
+        let is-frame = with-frame o found f e in
+        let says : look W s v g ≡ map-word.Frame (k .sharing) f = sym seen ∙ k .word in
+        let inside : f < F = omega (arith, k .inside, i .sized .frame-words) in
+        let old : Tied v g f (own s f) (look W s v g) = rw (k .owner, says) (tied-named v g f (k .sharing)) in
+        let made = frameThen (o .makes) in
+        let d = made v g in
+        let w = wordWith (o .makes) f in
+        let new = tied-then (o .makes) v g f in
+        let held = may-word (guestOf m v) (o .makes) f may in
+        let t = state (set frames f (frameBits d)) (set map (wordIndex (length map) v g) (mapBits w)) m in
+        record {
+          at = omega arith;
+          seated = rw (width-is (i .sized)) (paired-seated i v g f hv below inside old d w new held);
+          owners = λ j h.
+              at-or-not (λ x. x < F → own t x ≡ heldThen (among v g 1) made (own s x)) f j
+              (λ l. own-paired i v g f hv below inside old d w new held ∙ sym (ap (heldThen (among v g 1) made) (k .owner) ∙ held-here made v (k .sharing) g))
+              (λ n l.
+              own-unpaired i v g f hv below inside old d w new held j n
+              ∙ sym (held-elsewhere made v g (own s j) (λ b q. n (one-frame (look W s v g) (k .sharing) b f j says (i .seat v b g j l q .2)))))
+              h;
+          same = λ q. never (sym q ∙ framed o (is-frame .0) f (rw (← (is-frame .1)) e));
+        }
+
+  one-reached : (map frames : List ℕ) (g : ℕ) → Seated F W (state frames map m) → (t : Place) → tableStep o v (place map frames g) ≡ took t
+      → ReachedAt F W m o v (state frames map m) g 1 t
+  one-reached map frames g i t e =
+      step-wrote o v map frames g (ReachedAt F W m o v (state frames map m) g 1) (λ w h q. bare-reached map frames g i h w q)
+      (λ f h q. frame-reached map frames g i h f q) t e
+
+  module _ (s : State) (g : ℕ) where
+    further : (n : ℕ) (map frames : List ℕ) (next : ℕ) → Reached F W m o v s g n map frames next → (t : Place)
+        → ReachedAt F W m o v (state frames map m) next 1 t → ReachedAt F W m o v s g (suc n) t
+    further n map frames next r (place map′ frames′ next′) q = record {
+      at = omega (arith, r .at, q .at);
+      seated = q .seated;
+      owners = λ f h.
+          q .owners f h
+          ∙ rw (r .owners f h, r .at) (held-next (o .makes) v g n (own s f));
+      same = λ e f h. q .same e f h ∙ r .same e f h;
+    }
+
+    onward : (n : ℕ) (p t : Place) → ReachedAt F W m o v s g n p → tableStep o v p ≡ took t → ReachedAt F W m o v s g (suc n) t
+    onward n (place map frames next) t r e = further n map frames next r t (one-reached map frames next (r .seated) t e)
+
+  -- n steps at the most
+  pub range-reached : (map frames : List ℕ) (g n : ℕ) → Seated F W (state frames map m)
+      → Holds (ReachedAt F W m o v (state frames map m) g) 0 (run (tableStep o v) n (place map frames g))
+  range-reached map frames g n i =
+      let s = state frames map m in
+      kept (ReachedAt F W m o v s g) (tableStep o v) (onward s g) n 0 (place map frames g)
+      (record { at = omega arith; seated = i; owners = λ f h. sym (held-none v g (frameThen (o .makes)) (own s f)); same = λ e f h. refl })

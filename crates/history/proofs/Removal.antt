@@ -1,0 +1,231 @@
+-- A removal: the row of one slot becomes vacant, and each frame that it held waits.
+use mathlib.Core.Path.{_≡_, refl, sym, ap, _∙_}
+use mathlib.Core.Logic.{_≢_}
+use mathlib.Core.Bool.{Bool, true, false, cond}
+use mathlib.Core.List.{List, [], _∷_, _++_}
+use Prim.Native.Nat.{ℕ, zero, suc, _+_, _*_, _-_, _<_, _≤_}
+use native.Mathlib.Decide.{ℕ-discrete, decLt}
+use native.Mathlib.Nat.{mul-le-mul-right}
+use native.Mathlib.Omega.{arith}
+use borrow.Author.Tests.{eq-eqb, eqb-true, eqb-false}
+use lib.Dec.{eqb}
+use lib.ListN.{length, getD, take, drop, length-append, length-set, length-take, length-drop, length-replicate, getD-replicate, List·getD-append}
+use lib.Seq.{getD-append-add, getD-take, getD-drop, getD-set-same, getD-set-other}
+use Rattle.words.specs.MapWord.{mapBits, mapWordOf}
+use Rattle.words.specs.FrameWord.{frameBits, frameWordOf}
+use Rattle.words.specs.declared.map_word.MapWord.{MapWord}
+use Rattle.words.specs.declared.map_word.MapWord.the-variants as map-word
+use Rattle.words.specs.declared.frame_word.FrameWord.{FrameWord}
+use Rattle.words.specs.declared.frame_word.FrameWord.the-variants as frame-word
+use Rattle.words.proofs.MapWordLaws.{map-decode-encode}
+use Rattle.words.proofs.FrameWordLaws.{frame-decode-encode}
+use Rattle.tables.specs.Row.{rowOf, withRow}
+use Rattle.tables.proofs.RowLaws.{bounds-slot, row-length, row-word}
+use Rattle.records.specs.Monitor.{zeroGuest, withGuest}
+use Rattle.records.specs.State.{State, state}
+use Rattle.rows.specs.WholeRow.{vacantRow, frameFreed, framesFreed}
+use Rattle.records.proofs.MonitorLaws.{guest-other, guests-kept}
+use Rattle.history.specs.Sound.{SoundRecord}
+use Rattle.history.proofs.Seen.{own, look, width-is}
+use Rattle.history.proofs.Seats.{Seated, changed-seated}
+use Rattle.history.proofs.Moves.{guests-then, zero-sound}
+use Rattle.history.proofs.Held.{heldThen}
+
+-- words put in place of those from the a-th on
+module _ (map words : List ℕ) (a : ℕ) (inside : a + length words ≤ length map) where
+  abbrev put : List ℕ
+  put = take a map ++ (words ++ drop (a + length words) map)
+
+  before-length : length (take a map) ≡ a
+  before-length = length-take a map ∙ omega arith
+
+  put-length : length put ≡ length map
+  put-length = simp (length-append, length-drop, before-length) (omega arith)
+
+  put-before : (k : ℕ) → k < a → getD put k 0 ≡ getD map k 0
+  put-before k h = List·getD-append (take a map) (words ++ drop (a + length words) map) 0 k (omega (arith, before-length)) ∙ getD-take a map k 0 h
+
+  put-behind : (k : ℕ) → getD put (a + k) 0 ≡ getD (words ++ drop (a + length words) map) k 0
+  put-behind k = ap (λ (n : ℕ). getD put (n + k) 0) (sym before-length) ∙ getD-append-add (take a map) (words ++ drop (a + length words) map) k 0
+
+  put-within : (k : ℕ) → k < length words → getD put (a + k) 0 ≡ getD words k 0
+  put-within k h = put-behind k ∙ List·getD-append words (drop (a + length words) map) 0 k h
+
+  put-after : (k : ℕ) → a + length words ≤ k → getD put k 0 ≡ getD map k 0
+  put-after k h =
+      let j = k - (a + length words) in
+      let here : a + (length words + j) ≡ k = omega arith in
+      let there : a + length words + j ≡ k = omega arith in
+      ap (λ (n : ℕ). getD put n 0) (sym here) ∙ put-behind (length words + j) ∙ getD-append-add words (drop (a + length words) map) j 0
+      ∙ getD-drop (a + length words) map j 0 ∙ ap (λ (n : ℕ). getD map n 0) there
+
+-- the frame words after the frames of a row were freed
+one-length : (d : MapWord) (frames : List ℕ) → length (frameFreed d frames) ≡ length frames
+one-length map-word.Vacant frames = refl
+one-length (map-word.Frame b f) frames = length-set frames f (frameBits frame-word.Waiting)
+one-length map-word.Guarded frames = refl
+one-length map-word.Damaged frames = refl
+
+freed-length : (ws frames : List ℕ) → length (framesFreed ws frames) ≡ length frames
+unfolding framesFreed
+freed-length [] frames = refl
+freed-length (w ∷ ws) frames = freed-length ws (frameFreed (mapWordOf w) frames) ∙ one-length (mapWordOf w) frames
+
+-- a frame that a word says waits; another is left
+one-named : (b : Bool) (frames : List ℕ) (f : ℕ) → f < length frames → getD (frameFreed (map-word.Frame b f) frames) f 0 ≡ frameBits frame-word.Waiting
+one-named b frames f h = getD-set-same frames f (frameBits frame-word.Waiting) 0 h
+
+one-other : (d : MapWord) (frames : List ℕ) (f : ℕ) → ((b : Bool) → d ≢ map-word.Frame b f) → getD (frameFreed d frames) f 0 ≡ getD frames f 0
+one-other map-word.Vacant frames f n = refl
+one-other (map-word.Frame b k) frames f n = getD-set-other frames k f (frameBits frame-word.Waiting) 0 (λ e. n b (rw e))
+one-other map-word.Guarded frames f n = refl
+one-other map-word.Damaged frames f n = refl
+
+one-still : (d : MapWord) (frames : List ℕ) (f : ℕ) → f < length frames → getD frames f 0 ≡ frameBits frame-word.Waiting
+    → getD (frameFreed d frames) f 0 ≡ frameBits frame-word.Waiting
+one-still map-word.Vacant frames f h e = e
+one-still (map-word.Frame b k) frames f h e = go (ℕ-discrete f k)
+  where
+    go : Dec (f ≡ k) → getD (frameFreed (map-word.Frame b k) frames) f 0 ≡ frameBits frame-word.Waiting
+    go (yes p) = rw (← p) (one-named b frames f h)
+    go (no n) = getD-set-other frames k f (frameBits frame-word.Waiting) 0 n ∙ e
+one-still map-word.Guarded frames f h e = e
+one-still map-word.Damaged frames f h e = e
+
+still-waiting : (ws frames : List ℕ) (f : ℕ) → f < length frames → getD frames f 0 ≡ frameBits frame-word.Waiting
+    → getD (framesFreed ws frames) f 0 ≡ frameBits frame-word.Waiting
+unfolding framesFreed
+still-waiting [] frames f h e = e
+still-waiting (w ∷ ws) frames f h e =
+    still-waiting ws (frameFreed (mapWordOf w) frames) f (omega (arith, one-length (mapWordOf w) frames)) (one-still (mapWordOf w) frames f h e)
+
+freed-named : (ws frames : List ℕ) (f g : ℕ) (b : Bool) → f < length frames → g < length ws → mapWordOf (getD ws g 0) ≡ map-word.Frame b f
+    → getD (framesFreed ws frames) f 0 ≡ frameBits frame-word.Waiting
+unfolding framesFreed
+freed-named [] frames f g b h l e = absurd (omega arith)
+freed-named (w ∷ ws) frames f zero b h l e =
+    still-waiting ws (frameFreed (mapWordOf w) frames) f (omega (arith, one-length (mapWordOf w) frames))
+    (ap (λ (d : MapWord). getD (frameFreed d frames) f 0) e ∙ one-named b frames f h)
+freed-named (w ∷ ws) frames f (suc g) b h l e =
+    freed-named ws (frameFreed (mapWordOf w) frames) f g b (omega (arith, one-length (mapWordOf w) frames)) (omega arith) e
+
+freed-other : (ws frames : List ℕ) (f : ℕ) → ((g : ℕ) (b : Bool) → g < length ws → mapWordOf (getD ws g 0) ≢ map-word.Frame b f)
+    → getD (framesFreed ws frames) f 0 ≡ getD frames f 0
+unfolding framesFreed
+freed-other [] frames f n = refl
+freed-other (w ∷ ws) frames f n =
+    freed-other ws (frameFreed (mapWordOf w) frames) f (λ g b h. n (suc g) b (omega arith))
+    ∙ one-other (mapWordOf w) frames f (λ b. n 0 b (omega arith))
+
+-- whether slot v owns a frame, and what its word is when that guest is gone
+abbrev ownedBy : ℕ → FrameWord → Bool
+ownedBy v frame-word.Host = false
+ownedBy v frame-word.Waiting = false
+ownedBy v (frame-word.Owned u b g) = eqb u v
+ownedBy v frame-word.Damaged = false
+
+owner-is : (v : ℕ) (d : FrameWord) → ownedBy v d ≡ true → (b : Bool) × (g : ℕ) × (d ≡ frame-word.Owned v b g)
+owner-is v frame-word.Host h = absurd (let z : _≡_ {A = ℕ} 0 1 = cc in omega arith)
+owner-is v frame-word.Waiting h = absurd (let z : _≡_ {A = ℕ} 0 1 = cc in omega arith)
+owner-is v (frame-word.Owned u b g) h = (b, g, rw (eqb-true u v h))
+owner-is v frame-word.Damaged h = absurd (let z : _≡_ {A = ℕ} 0 1 = cc in omega arith)
+
+owner-not : (v : ℕ) (d : FrameWord) → ownedBy v d ≡ false → (b : Bool) (g : ℕ) → d ≢ frame-word.Owned v b g
+owner-not v d h b g e =
+    let t : ownedBy v d ≡ true = rw e (eq-eqb v v refl) in
+    let z : _≡_ {A = ℕ} 0 1 = cc in
+    omega arith
+
+owner-held : (v : ℕ) (d : FrameWord) → cond (ownedBy v d) frame-word.Waiting d ≡ heldThen (λ u h. eqb u v) (λ u h. frame-word.Waiting) d
+owner-held v frame-word.Host = refl
+owner-held v frame-word.Waiting = refl
+owner-held v (frame-word.Owned u b g) = refl
+owner-held v frame-word.Damaged = refl
+
+module _ {F W : ℕ} {s : State} (i : Seated F W s) (v : ℕ) (hv : v < 8) where
+  abbrev row : List ℕ
+  row = rowOf (s .map) v
+
+  abbrev gone : State
+  gone = state (framesFreed row (s .frames)) (withRow (s .map) v (vacantRow (length row))) (withGuest (s .monitor) v zeroGuest)
+
+  width : length row ≡ W
+  width = row-length (s .map) v hv ∙ width-is (i .sized)
+
+  says-row : (g : ℕ) → g < W → mapWordOf (getD row g 0) ≡ look W s v g
+  unfolding look
+  says-row g h = ap mapWordOf (row-word (s .map) v g hv (omega (arith, width-is (i .sized))) ∙ rw (width-is (i .sized)))
+
+  own-gone : (f : ℕ) → f < F → (x : Bool) → ownedBy v (own s f) ≡ x → own gone f ≡ cond x frame-word.Waiting (own s f)
+  unfolding own
+  own-gone f h true e =
+      let p = owner-is v (own s f) e in
+      let n = i .seat v (p .0) (p .1) f h (p .2) in
+      rw (freed-named row (s .frames) f (p .1) (p .0) (omega (arith, i .sized .frame-words)) (omega (arith, width)) (says-row (p .1) (n .1) ∙ n .2))
+      (frame-decode-encode frame-word.Waiting tt)
+  own-gone f h false e =
+      ap frameWordOf
+      (freed-other row (s .frames) f (λ g b l q.
+      owner-not v (own s f) e b g (i .back v b g f hv (omega (arith, width)) (sym (says-row g (omega (arith, width))) ∙ q) .1)))
+
+  pub owners-gone : (f : ℕ) → f < F → own gone f ≡ heldThen (λ u h. eqb u v) (λ u h. frame-word.Waiting) (own s f)
+  owners-gone f h = own-gone f h (ownedBy v (own s f)) refl ∙ owner-held v (own s f)
+
+  abbrev vacant : List ℕ
+  vacant = vacantRow W
+
+  wide : length vacant ≡ W
+  wide = length-replicate W (mapBits map-word.Vacant)
+
+  inside : v * W + length vacant ≤ length (s .map)
+  inside = omega (arith, wide, i .sized .map-words, mul-le-mul-right {m = v} {n = 7} W (omega arith))
+
+  gone-map : withRow (s .map) v (vacantRow (length row)) ≡ put (s .map) vacant (v * W) inside
+  gone-map = rw (wide, width, bounds-slot (length (s .map)) v hv, width-is (i .sized))
+
+  look-gone : (g : ℕ) → g < W → look W gone v g ≡ map-word.Vacant
+  unfolding look
+  look-gone g h =
+      rw (gone-map, put-within (s .map) vacant (v * W) inside g (omega (arith, wide)), getD-replicate {A = ℕ} W g (mapBits map-word.Vacant) 0 h)
+      (map-decode-encode map-word.Vacant tt)
+
+  look-there : (u g : ℕ) → g < W → u ≢ v → look W gone u g ≡ look W s u g
+  unfolding look
+  look-there u g h n = ap mapWordOf (rw gone-map (go (decLt u v)))
+    where
+      go : Dec (u < v) → getD (put (s .map) vacant (v * W) inside) (u * W + g) 0 ≡ getD (s .map) (u * W + g) 0
+      go (yes l) = put-before (s .map) vacant (v * W) inside (u * W + g) (omega (arith, mul-le-mul-right W l))
+      go (no m) = put-after (s .map) vacant (v * W) inside (u * W + g) (omega (arith, wide, mul-le-mul-right {m = suc v} {n = u} W (omega arith)))
+
+  slot-gone : (u g : ℕ) → g < W → eqb u v ≡ true → look W gone u g ≡ map-word.Vacant
+  slot-gone u g h e = rw (eqb-true u v e) (look-gone g h)
+
+  -- no frame is named from a vacant granule
+  unnamed : (u : ℕ) (b : Bool) (g f : ℕ) → g < W → eqb u v ≡ true → look W gone u g ≡ map-word.Frame b f → ⊥
+  unnamed u b g f h e o =
+      let vacant : look W gone u g ≡ map-word.Vacant = slot-gone u g h e in
+      let z : _≡_ {A = ℕ} 0 1 = cc in
+      omega arith
+
+  frame-gone : (f : ℕ) → f < F → ownedBy v (own s f) ≡ true → own gone f ≡ frame-word.Waiting
+  frame-gone f h e = own-gone f h true e
+
+  pub gone-seated : Seated F W gone
+  gone-seated = changed-seated i (λ f. ownedBy v (own s f)) (λ u g. eqb u v) (record {
+    sized = record {
+      bounds = i .sized .bounds;
+      frame-words = freed-length row (s .frames) ∙ i .sized .frame-words;
+      map-words = ap {A = List ℕ} length gone-map ∙ put-length (s .map) vacant (v * W) inside ∙ i .sized .map-words;
+      guests = guests-kept (s .monitor) v zeroGuest ∙ i .sized .guests;
+    };
+    records = guests-then (λ u x. SoundRecord x) (i .sized) v zeroGuest zero-sound (λ u l n. i .records u l);
+    frames-kept = λ f h e. own-gone f h false e;
+    granules-kept = λ u g l h e. look-there u g h (eqb-false u v e);
+    holds-kept = λ u g l h e r. rw (guest-other (s .monitor) v u zeroGuest (eqb-false u v e)) r;
+    frames-within = λ u b g f h e o. rw o at e;
+    granules-within = λ u b g f l h e o. rw (i .back u b g f l h o .1) e;
+    frames-sound = λ f h e q. let y : frame-word.Waiting ≡ frame-word.Damaged = sym (frame-gone f h e) ∙ q in let z : _≡_ {A = ℕ} 0 1 = cc in omega arith;
+    frames-named = λ u b g f h e o. let y : frame-word.Waiting ≡ frame-word.Owned u b g = sym (frame-gone f h e) ∙ o in let z : _≡_ {A = ℕ} 0 1 = cc in absurd (omega arith);
+    granules-named = λ u b g f l h e o. absurd (unnamed u b g f h e o);
+    granules-held = λ u g l h e. rw (slot-gone u g h e);
+  })
