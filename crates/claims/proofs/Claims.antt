@@ -1,5 +1,6 @@
 -- What the customer asks for, each with the words that ask for it. The definitions are in specs/; all else in proofs/ only helps to prove these.
--- No theorem assumes anything of the state: lengths, tables and records may be sound or damaged.
+-- No theorem here assumes anything of the state: lengths, tables and records may be sound or damaged. Those of histories, which begin with
+-- fresh tables, are stated and proved in the crate history, proofs/History.antt, and passed on from there.
 use mathlib.Core.Path.{_≡_, refl}
 use mathlib.Core.Logic.{_≢_}
 use mathlib.Core.Bool.{true}
@@ -50,6 +51,9 @@ use Rattle.claims.proofs.CreateLaws.{seven-exactly}
 use Rattle.claims.proofs.RunLaws.{run-twice}
 use Rattle.claims.proofs.ShowLaws.{row-or-empty}
 use Rattle.claims.proofs.RemovalCounts.{removal-counts}
+
+-- Condition 2, the exact invariant, and what follows for every history.
+pub use Rattle.history.proofs.History.{calls-keep-sound, histories-are-sound, host-access-by-history, no-such-frame, no-damage-in-histories, private-or-waiting-closed, one-granule-per-frame}
 
 -- A range call of slot v: R0 has the number of one of the four calls in its low half, and anything above.
 module _ (c : RangeCall) (r0 : ℕ) (number : r0 % 2 ^ 32 ≡ numberOf c) (v b r3 : ℕ) (s : State) where
