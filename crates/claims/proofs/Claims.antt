@@ -51,7 +51,6 @@ use Rattle.claims.proofs.CreateLaws.{seven-exactly}
 use Rattle.claims.proofs.RunLaws.{run-twice}
 use Rattle.claims.proofs.ShowLaws.{row-or-empty}
 use Rattle.claims.proofs.RemovalCounts.{removal-counts}
-
 -- Condition 2, the exact invariant, and what follows for every history.
 pub use Rattle.history.proofs.History.{calls-keep-sound, histories-are-sound, host-access-by-history, no-such-frame, no-damage-in-histories, private-or-waiting-closed, one-granule-per-frame}
 

@@ -23,7 +23,7 @@ use Rattle.history.specs.Log.{FrameChange, afterCall, lastFrom}
 use Rattle.history.specs.History.{logOf}
 use Rattle.history.proofs.Seen.{own, look, index-below}
 use Rattle.history.proofs.Seats.{Seated}
-use Rattle.history.proofs.Moves.{zero-sound}
+use Rattle.history.proofs.RecordLaws.{zero-sound}
 use Rattle.history.proofs.Held.{ownerAfter}
 use Rattle.history.proofs.Kept.{Kept}
 use Rattle.history.proofs.FrameCalls.{keep-donate, keep-cleared, keep-access}
@@ -62,7 +62,7 @@ module _ (F W : ℕ) (bounds : lengthsHold F (8 * W) ≡ true) where
   unfolding own frameBits
   fresh-own f h = rw (getD-replicate {A = ℕ} F f 0 0 h) (frame-decode-encode frame-word.Host tt)
 
-  fresh-look : (v g : ℕ) → v < 8 → g < W → look W (freshState F W) v g ≡ map-word.Vacant
+  pub fresh-look : (v g : ℕ) → v < 8 → g < W → look W (freshState F W) v g ≡ map-word.Vacant
   unfolding look mapBits
   fresh-look v g h l = rw (getD-replicate {A = ℕ} (8 * W) (v * W + g) 0 0 (index-below W v g h l)) (map-decode-encode map-word.Vacant tt)
 

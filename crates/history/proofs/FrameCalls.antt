@@ -19,10 +19,11 @@ use Rattle.history.specs.Log as log
 use Rattle.history.proofs.Seen.{own, look, lengths-hold, width-is, at-or-not}
 use Rattle.history.proofs.Seats.{Seated}
 use Rattle.history.proofs.SoundLaws.{granule-found, frame-found, frame-sound}
-use Rattle.history.proofs.Moves.{Tied, tied-named, tied-apart, FrameFree, own-paired, own-unpaired, paired-seated, own-freed, own-unfreed, freed-seated}
+use Rattle.history.proofs.Tied.{Tied, tied-named, tied-apart, FrameFree}
+use Rattle.history.proofs.Moves.{pair-put, frame-put}
 use Rattle.history.proofs.Held.{ownerAfter}
-use Rattle.history.proofs.Looks.{hosts-word, waiting-word, vacant-word, granule-undamaged, below-frames, below-width}
 use Rattle.history.proofs.Kept.{Kept, sure, tests-kept}
+use Rattle.history.proofs.Looks.{hosts-word, waiting-word, vacant-word, granule-undamaged, below-frames, below-width}
 
 -- a call about one frame, which says so in the log
 one-logged : (s t : State) (f : ℕ) (c : FrameChange) → own t f ≡ ownerAfter c → ((k : ℕ) → k ≢ f → own t k ≡ own s k)
@@ -69,12 +70,11 @@ module _ {F W : ℕ} {s : State} (i : Seated F W s) where
       let old : Tied v g f (own s f) (look W s v g) = rw (host, vacant) (tied-apart v g f frame-word.Host map-word.Vacant tt tt) in
       let d = frame-word.Owned v false g in
       let e = map-word.Frame false f in
-      let new = tied-named v g f false in
+      let put = pair-put i v g f slot below inside old d e (tied-named v g f false) live .0 in
       record {
-        seated = rw (width-is (i .sized)) (paired-seated i v g f slot below inside old d e new live);
+        seated = rw (width-is (i .sized)) (put .seated);
         logged = λ k l x q.
-            one-logged s (donated v f g s .left) f (log.donated v g) (own-paired i v g f slot below inside old d e new live)
-            (λ j n. own-unpaired i v g f slot below inside old d e new live j n) k x q;
+            one-logged s (donated v f g s .left) f (log.donated v g) (put .frame) (put .frames) k x q;
         unhurt = refl;
       })
 
@@ -96,11 +96,11 @@ module _ {F W : ℕ} {s : State} (i : Seated F W s) where
       let inside = below-frames i f (p .1 .0) in
       let waits : own s f ≡ frame-word.Waiting = waiting-word (own s f) (rw (frame-found i f inside) at (p .1 .1 .1 .0)) in
       let free : FrameFree (own s f) = rw waits tt in
+      let put = frame-put i f inside free frame-word.Host tt in
       record {
-        seated = freed-seated i f inside free frame-word.Host tt;
+        seated = put .seated;
         logged = λ k l x q.
-            one-logged s (handedBack f s .left) f log.cleared (own-freed i f inside free frame-word.Host tt)
-            (λ j n. own-unfreed i f inside free frame-word.Host tt j n) k x q;
+            one-logged s (handedBack f s .left) f log.cleared (put .frame) (put .frames) k x q;
         unhurt = refl;
       })
 

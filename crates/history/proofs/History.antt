@@ -1,5 +1,5 @@
 -- What holds of every history: any calls, with any arguments, refused ones too, from fresh tables of any lengths that document 01 allows.
-use mathlib.Core.Path.{_≡_, refl, ap, _∙_}
+use mathlib.Core.Path.{_≡_, refl, ap, subst, _∙_}
 use mathlib.Core.Logic.{_≢_}
 use mathlib.Core.Bool.{Bool, true, false, not}
 use mathlib.Core.List.{List}
@@ -7,11 +7,12 @@ use Prim.Native.Nat.{ℕ, _*_, _/_, _%_, _<_, _≤_}
 use native.Mathlib.Omega.{arith}
 use borrow.Author.Tests.{lt-ltb, le-ltb, le-leb, eq-eqb}
 use lib.Dec.{eqb}
+use lib.ListN.{length}
 use Rattle.words.specs.MapWord.{mapWordOf}
 use Rattle.words.specs.declared.map_word.MapWord.the-variants as map-word
 use Rattle.words.specs.declared.frame_word.FrameWord.{FrameWord}
 use Rattle.words.proofs.Booleans.{both-true}
-use Rattle.tables.specs.Length.{framesHold, mapHolds, lengthsHold}
+use Rattle.tables.specs.Length.{widthOf, framesHold, mapHolds, lengthsHold}
 use Rattle.tables.specs.Row.{wordAt}
 use Rattle.tables.specs.Pair.{pairOf}
 use Rattle.tables.specs.declared.pairs.FrameState.{FrameState}
@@ -23,13 +24,14 @@ use Rattle.calls.specs.Step.{step, stateAfter, freshState}
 use Rattle.calls.specs.declared.call.Call.{Call}
 use Rattle.calls.specs.declared.call.Call.the-variants.{Access}
 use Rattle.history.specs.Log.{FrameChange, neverDonated, donated, shared, unshared, relinquished, ownerRemoved, cleared, openAfter, lastChange}
-use Rattle.history.specs.History.{logOf, privateOrWaiting}
+use Rattle.history.specs.History.{logOf, privateOrWaiting, Reachable}
 use Rattle.history.specs.Sound.{Sound}
 use Rattle.history.proofs.Seen.{own, look, lengths-hold, width-is}
 use Rattle.history.proofs.Seats.{Seated}
 use Rattle.history.proofs.SoundLaws.{frameBy, frame-found, frame-sound, seated-sound, sound-seated}
 use Rattle.history.proofs.Held.{ownerAfter}
 use Rattle.history.proofs.CallsKept.{keep, calls-seated, calls-logged, fresh-own, fresh-seated}
+use Rattle.history.proofs.UndoShares.{seated-got}
 
 -- access answers for a frame that its word says to be so
 access-seen : {F W : ℕ} {s : State} → Seated F W s → (f : ℕ) → f < F → numbersOf (step (Access f) s .answer) ≡ verdictWith 0 (openTo (frameBy (own s f)))
@@ -119,3 +121,15 @@ module _ (F W : ℕ) (frames-some : 1 ≤ F) (frames-few : F ≤ 16384) (width-s
       let first = i .back v b g f hv hg (rw (width-is (i .sized)) at p) .1 in
       let second = i .back u c h f hu hh (rw (width-is (i .sized)) at q) .1 in
       (cc, cc)
+
+-- The invariant is exact: it holds of the states that some calls leave, and of no others.
+pub reachable-exactly : (s : State) → (Reachable s → Sound s) × (Sound s → Reachable s)
+reachable-exactly s = (
+  λ r. subst Sound (r .leaves) (seated-sound (calls-seated (r .calls) (freshState (r .F) (r .W)) (fresh-seated (r .F) (r .W) (r .allowed)))),
+  λ k.
+      let i = sound-seated k in
+      let F = length (s .frames) in
+      let W = widthOf (length (s .map)) in
+      let got = seated-got F W (i .sized .bounds) s i in
+      record { F = F; W = W; allowed = i .sized .bounds; calls = got .calls; leaves = got .leaves },
+)

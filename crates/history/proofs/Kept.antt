@@ -15,9 +15,8 @@ use Rattle.records.proofs.TestLaws.{Passes}
 use Rattle.calls.specs.declared.call.Call.{Call}
 use Rattle.calls.specs.declared.call.Call.the-variants.{Create, Donate, Run, Remove, Cleared, Access, Show, RegisterRead, RegisterWrite, Hypercall, Abort}
 use Rattle.history.specs.Log.{FrameChange, hostDone, guestDone, afterCall}
-use Rattle.history.proofs.Seen.{own}
+use Rattle.history.proofs.Seen.{never, own}
 use Rattle.history.proofs.Seats.{Seated}
-use Rattle.history.proofs.Moves.{never}
 use Rattle.history.proofs.Held.{ownerAfter}
 
 -- neither of the verdicts 1 and 6

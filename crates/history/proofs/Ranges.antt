@@ -1,7 +1,6 @@
 -- A step that is taken, and a range of them, keep the invariant, and change the frames at these granules and no others.
 use mathlib.Core.Path.{_≡_, refl, sym, ap, _∙_}
-use mathlib.Core.Logic.{_≢_}
-use mathlib.Core.Bool.{Bool, true, false, cond}
+use mathlib.Core.Bool.{Bool, true, false}
 use mathlib.Core.List.{List}
 use Prim.Native.Nat.{ℕ, suc, _+_, _<_}
 use native.Mathlib.Omega.{arith}
@@ -17,26 +16,26 @@ use Rattle.tables.specs.Length.{widthOf}
 use Rattle.tables.specs.Row.{wordIndex, wordAt}
 use Rattle.tables.specs.Pair.{granuleState}
 use Rattle.tables.specs.declared.pairs.GranuleState.{GranuleState}
-use Rattle.tables.specs.declared.pairs.GranuleState.the-variants as granule-state
 use Rattle.tables.proofs.Found.{mapWordBy, granule-says}
 use Rattle.records.specs.Monitor.{guestOf}
 use Rattle.records.specs.State.{State, state}
 use Rattle.records.specs.declared.guest.Guest.{Guest}
 use Rattle.records.specs.declared.monitor.Monitor.{Monitor}
-use Rattle.granules.specs.Kind.{isOf, bare, wordWith, frameThen, changeOf}
+use Rattle.granules.specs.Kind.{wordWith, frameThen, changeOf}
 use Rattle.granules.specs.Step.{Place, place, tableStep}
 use Rattle.granules.specs.declared.kinds.Kind.{Kind}
 use Rattle.granules.specs.declared.kinds.Kind.the-variants.{Vacant, Private, Shared, Guarded}
 use Rattle.granules.specs.declared.kinds.Operation.{Operation}
-use Rattle.granules.specs.declared.kinds.Change.the-variants.{Refused, Bare, WithFrame}
+use Rattle.granules.specs.declared.kinds.Change.the-variants.{Bare, WithFrame}
 use Rattle.granules.proofs.ChangeLaws.{with-frame, writable}
 use Rattle.history.specs.Log.{among}
 use Rattle.history.specs.Sound.{mayHold}
-use Rattle.history.proofs.Seen.{own, look, width-is, at-or-not}
+use Rattle.history.proofs.Seen.{never, own, look, width-is, at-or-not}
 use Rattle.history.proofs.Seats.{stateBy, Seated}
-use Rattle.history.proofs.Moves.{never, Tied, tied-named, tied-apart, NamesNone, own-paired, own-unpaired, paired-seated, bared-seated}
+use Rattle.history.proofs.Tied.{Tied, tied-named, tied-apart, NamesNone}
+use Rattle.history.proofs.Moves.{pair-put, granule-put}
 use Rattle.history.proofs.Held.{heldThen, held-none, held-next, held-here, held-elsewhere}
-use Rattle.history.proofs.Taken.{step-wrote}
+use Rattle.history.proofs.Taken.{step-wrote, hasFrame, barely, framed}
 
 -- what a guest may make of its granules
 abbrev pub mayMake : Guest → Kind → Bool
@@ -45,50 +44,11 @@ mayMake g Private = g .live
 mayMake g Shared = g .run
 mayMake g Guarded = g .enrolled
 
--- whether a granule of a kind has a frame
-abbrev pub hasFrame : Kind → Bool
-hasFrame Vacant = false
-hasFrame Private = true
-hasFrame Shared = true
-hasFrame Guarded = false
-
 may-word : (guest : Guest) (k : Kind) (f : ℕ) → mayMake guest k ≡ true → mayHold guest (stateBy (wordWith k f)) ≡ true
 may-word guest Vacant f h = h
 may-word guest Private f h = h
 may-word guest Shared f h = h
 may-word guest Guarded f h = h
-
--- a granule without a frame gets a word without one
-record Barely (o : Operation) (k : GranuleState) (w : ℕ) : Type 0 where
-  before : NamesNone (mapWordBy k)
-  undamaged : k ≢ granule-state.Damaged
-  word : w ≡ mapBits (wordWith (o .makes) 0)
-  after : NamesNone (wordWith (o .makes) 0)
-
-bare-kind : (m : Kind) (w : ℕ) → Bare w ≡ bare m → (w ≡ mapBits (wordWith m 0)) × NamesNone (wordWith m 0)
-bare-kind Vacant w e = (cc, tt)
-bare-kind Private w e = let z : _≡_ {A = ℕ} 0 1 = cc in absurd (omega arith)
-bare-kind Shared w e = let z : _≡_ {A = ℕ} 0 1 = cc in absurd (omega arith)
-bare-kind Guarded w e = (cc, tt)
-
-bare-if : (x : Bool) (m : Kind) (w : ℕ) → Bare w ≡ cond x (bare m) Refused → Bare w ≡ bare m
-bare-if true m w e = e
-bare-if false m w e = let z : _≡_ {A = ℕ} 0 1 = cc in absurd (omega arith)
-
-frame-if : (x : Bool) (f w : ℕ) → Bare w ≡ cond x (WithFrame f) Refused → ⊥
-frame-if true f w e = let z : _≡_ {A = ℕ} 0 1 = cc in omega arith
-frame-if false f w e = let z : _≡_ {A = ℕ} 0 1 = cc in omega arith
-
-barely : (o : Operation) (k : GranuleState) (w : ℕ) → Bare w ≡ changeOf o k → Barely o k w
-unfolding changeOf
-barely o granule-state.Vacant w e =
-    let p = bare-kind (o .makes) w (bare-if (isOf (o .needs) granule-state.Vacant) (o .makes) w e) in
-    record { before = tt; undamaged = λ q. let z : _≡_ {A = ℕ} 0 1 = cc in omega arith; word = p .0; after = p .1 }
-barely o (granule-state.Frame b f) w e = absurd (frame-if (isOf (o .needs) (granule-state.Frame b f)) f w e)
-barely o granule-state.Guarded w e =
-    let p = bare-kind (o .makes) w (bare-if (isOf (o .needs) granule-state.Guarded) (o .makes) w e) in
-    record { before = tt; undamaged = λ q. let z : _≡_ {A = ℕ} 0 1 = cc in omega arith; word = p .0; after = p .1 }
-barely o granule-state.Damaged w e = let z : _≡_ {A = ℕ} 0 1 = cc in absurd (omega arith)
 
 -- the words of a frame and its granule that becomes of a kind
 tied-then : (k : Kind) (v g f : ℕ) → Tied v g f (frameThen k v g) (wordWith k f)
@@ -96,21 +56,6 @@ tied-then Vacant v g f = tied-apart v g f frame-word.Waiting map-word.Vacant tt 
 tied-then Private v g f = tied-named v g f false
 tied-then Shared v g f = tied-named v g f true
 tied-then Guarded v g f = tied-apart v g f frame-word.Waiting map-word.Guarded tt tt
-
--- a granule with a frame is not of a kind without one
-framed-if : (x : Bool) (f k : ℕ) → WithFrame f ≡ cond x (WithFrame k) Refused → x ≡ true
-framed-if true f k e = refl
-framed-if false f k e = let z : _≡_ {A = ℕ} 0 1 = cc in absurd (omega arith)
-
-framed : (o : Operation) (b : Bool) (f : ℕ) → WithFrame f ≡ changeOf o (granule-state.Frame b f) → hasFrame (o .needs) ≡ true
-unfolding changeOf
-framed o b f e = on (o .needs) (framed-if (isOf (o .needs) (granule-state.Frame b f)) f f e)
-  where
-    on : (k : Kind) → isOf k (granule-state.Frame b f) ≡ true → hasFrame k ≡ true
-    on Vacant h = h
-    on Private h = refl
-    on Shared h = refl
-    on Guarded h = h
 
 -- a granule names one frame
 one-frame : (d : MapWord) (a b : Bool) (f k : ℕ) → d ≡ map-word.Frame a f → d ≡ map-word.Frame b k → k ≡ f
@@ -150,7 +95,7 @@ module _ (F W : ℕ) (m : Monitor) (o : Operation) (v : ℕ) (hv : v < 8) (may :
         let none : NamesNone (look W s v g) = rw says (k .before) in
         record {
           at = omega arith;
-          seated = rw (k .word, width-is (i .sized)) (bared-seated i v g hv below none (wordWith (o .makes) 0) (k .after) (may-word (guestOf m v) (o .makes) 0 may));
+          seated = rw (k .word, width-is (i .sized)) (granule-put i v g hv below none (wordWith (o .makes) 0) (k .after) (may-word (guestOf m v) (o .makes) 0 may) .seated);
           owners = λ f h. sym (held-elsewhere (frameThen (o .makes)) v g (own s f) (λ b q. rw (i .seat v b g f h q .2) at none));
           same = λ q f h. refl;
         }
@@ -167,17 +112,16 @@ module _ (F W : ℕ) (m : Monitor) (o : Operation) (v : ℕ) (hv : v < 8) (may :
         let made = frameThen (o .makes) in
         let d = made v g in
         let w = wordWith (o .makes) f in
-        let new = tied-then (o .makes) v g f in
-        let held = may-word (guestOf m v) (o .makes) f may in
+        let put = pair-put i v g f hv below inside old d w (tied-then (o .makes) v g f) (may-word (guestOf m v) (o .makes) f may) .0 in
         let t = state (set frames f (frameBits d)) (set map (wordIndex (length map) v g) (mapBits w)) m in
         record {
           at = omega arith;
-          seated = rw (width-is (i .sized)) (paired-seated i v g f hv below inside old d w new held);
+          seated = rw (width-is (i .sized)) (put .seated);
           owners = λ j h.
               at-or-not (λ x. x < F → own t x ≡ heldThen (among v g 1) made (own s x)) f j
-              (λ l. own-paired i v g f hv below inside old d w new held ∙ sym (ap (heldThen (among v g 1) made) (k .owner) ∙ held-here made v (k .sharing) g))
+              (λ l. put .frame ∙ sym (ap (heldThen (among v g 1) made) (k .owner) ∙ held-here made v (k .sharing) g))
               (λ n l.
-              own-unpaired i v g f hv below inside old d w new held j n
+              put .frames j n
               ∙ sym (held-elsewhere made v g (own s j) (λ b q. n (one-frame (look W s v g) (k .sharing) b f j says (i .seat v b g j l q .2)))))
               h;
           same = λ q. never (sym q ∙ framed o (is-frame .0) f (rw (← (is-frame .1)) e));

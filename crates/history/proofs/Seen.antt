@@ -1,7 +1,7 @@
 -- What is seen of a state, and of one in which a word or a record was put. Nothing after this file speaks of bits.
 use mathlib.Core.Path.{_≡_, ap}
 use mathlib.Core.Logic.{_≢_}
-use mathlib.Core.Bool.{true}
+use mathlib.Core.Bool.{Bool, true, false}
 use mathlib.Core.List.{List}
 use Prim.Native.Nat.{ℕ, _+_, _*_, _<_, _≤_}
 use native.Mathlib.Decide.{ℕ-discrete, decLt}
@@ -47,6 +47,9 @@ at-most {F} {W} z =
     let p = both-true (framesHold F) (mapHolds (8 * W)) (z .bounds) in
     (frames-at-most F (p .0), omega (arith, width-between (8 * W) (p .1)))
 
+pub never : {A : Type 0} → _≡_ {A = Bool} false true → A
+never e = let z : _≡_ {A = ℕ} 0 1 = cc in absurd (omega arith)
+
 -- what holds of one number, and of every other, holds of all
 pub at-or-not : (P : ℕ → Type 0) (n k : ℕ) → P n → (k ≢ n → P k) → P k
 at-or-not P n k here there = go (ℕ-discrete k n)
@@ -59,7 +62,7 @@ index-less : (W v g u h : ℕ) → g < W → v < u → v * W + g ≡ u * W + h �
 index-less W v g u h l m e = omega (arith, mul-le-mul-right W m)
 
 -- granules of rows of W words have words of their own
-index-same : (W v g u h : ℕ) → g < W → h < W → v * W + g ≡ u * W + h → (v ≡ u) × (g ≡ h)
+pub index-same : (W v g u h : ℕ) → g < W → h < W → v * W + g ≡ u * W + h → (v ≡ u) × (g ≡ h)
 index-same W v g u h l m e = go (decLt v u) (decLt u v)
   where
     go : Dec (v < u) → Dec (u < v) → (v ≡ u) × (g ≡ h)
@@ -75,16 +78,16 @@ index-below W v g h l = omega (arith, mul-le-mul-right W h)
 
 module _ (words : List ℕ) where
   -- the frame words with that of frame f built anew
-  pub frame-put : (f : ℕ) (d : FrameWord) → f < length words → FrameFits d → frameWordOf (getD (set words f (frameBits d)) f 0) ≡ d
-  frame-put f d h fits = rw (getD-set-same words f (frameBits d) 0 h) (frame-decode-encode d fits)
+  pub frame-built : (f : ℕ) (d : FrameWord) → f < length words → FrameFits d → frameWordOf (getD (set words f (frameBits d)) f 0) ≡ d
+  frame-built f d h fits = rw (getD-set-same words f (frameBits d) 0 h) (frame-decode-encode d fits)
 
   pub frame-other : (f k : ℕ) (d : FrameWord) → k ≢ f → frameWordOf (getD (set words f (frameBits d)) k 0) ≡ frameWordOf (getD words k 0)
   frame-other f k d n = ap frameWordOf (getD-set-other words f k (frameBits d) 0 n)
 
   -- the map words with that of granule g of slot v built anew
-  pub map-put : (W v g : ℕ) (d : MapWord) → v * W + g < length words → MapFits d
+  pub map-built : (W v g : ℕ) (d : MapWord) → v * W + g < length words → MapFits d
       → mapWordOf (getD (set words (v * W + g) (mapBits d)) (v * W + g) 0) ≡ d
-  map-put W v g d h fits = rw (getD-set-same words (v * W + g) (mapBits d) 0 h) (map-decode-encode d fits)
+  map-built W v g d h fits = rw (getD-set-same words (v * W + g) (mapBits d) 0 h) (map-decode-encode d fits)
 
   pub map-other : (W v g u h : ℕ) (d : MapWord) → g < W → h < W → ((u ≡ v) × (h ≡ g) → ⊥)
       → mapWordOf (getD (set words (v * W + g) (mapBits d)) (u * W + h) 0) ≡ mapWordOf (getD words (u * W + h) 0)

@@ -3,8 +3,8 @@ use mathlib.Core.Path.{_≡_, refl, sym, ap, _∙_}
 use mathlib.Core.Bool.{Bool, true, false, cond}
 use mathlib.Core.List.{List, [], _∷_}
 use Prim.Native.Nat.{ℕ, zero, suc, _+_, _<_}
-use native.Mathlib.Nat.{zero-add, add-zero, add-suc, suc-add}
 use native.Mathlib.Decide.{decLt}
+use native.Mathlib.Nat.{zero-add, add-zero, add-suc, suc-add}
 use native.Mathlib.Omega.{arith}
 use borrow.Author.Tests.{ltb-true, eq-eqb}
 use lib.Dec.{eqb}
@@ -18,37 +18,33 @@ use Rattle.words.proofs.MapWordLaws.{map-encode-decode}
 use Rattle.tables.specs.Length.{framesHold, mapHolds}
 use Rattle.tables.specs.Row.{rowOf}
 use Rattle.tables.specs.Pair.{granuleState, granuleUndamaged}
-use Rattle.tables.specs.declared.pairs.GranuleState.{GranuleState}
-use Rattle.tables.specs.declared.pairs.GranuleState.the-variants as granule-state
 use Rattle.tables.proofs.RowLaws.{row-length, row-length-none, row-word}
 use Rattle.records.specs.Answer.{numbersOf}
 use Rattle.records.specs.Monitor.{zeroGuest, newGuest, markRun, guestOf}
 use Rattle.records.specs.State.{State, answered}
 use Rattle.records.specs.Tests.{firstRefusal}
 use Rattle.records.specs.declared.answer.Answer.the-variants.{NoGuest}
-use Rattle.records.specs.declared.guest.Guest.{Guest}
 use Rattle.records.specs.declared.monitor.Monitor.{Monitor}
 use Rattle.records.proofs.MonitorLaws.{live-slot}
 use Rattle.rows.specs.WholeRow.{rowVacant, undamagedFrom, rowUndamaged}
-use Rattle.host_registers.specs.Registers.{registerNumbered, withinLimit, bitmapOf, withBitmap, readTests, writeTests, bitmapTold, bitmapWritten, registerReadOf, registerWriteOf}
-use Rattle.host_registers.specs.declared.registers.FirmwareRegister.{FirmwareRegister}
-use Rattle.host_registers.specs.declared.registers.FirmwareRegister.the-variants.{Std, StdHyp, VendorHyp, Unknown}
+use Rattle.host_registers.specs.Registers.{registerNumbered, withBitmap, readTests, writeTests, bitmapTold, bitmapWritten, registerReadOf, registerWriteOf}
 use Rattle.host_guests.specs.Calls.{freeFrom, freeSlot, createTests, created, createOf, runTests, ran, runOf, shownUnless, showOf}
 use Rattle.host_removal.specs.Calls.{removeTests, removed, removeOf}
 use Rattle.calls.specs.declared.call.Call.the-variants.{Create, Run, Remove, Show, RegisterRead, RegisterWrite}
-use Rattle.history.specs.Sound.{SoundRecord, mayHold}
+use Rattle.history.specs.Sound.{mayHold}
 use Rattle.history.specs.Log as log
 use Rattle.history.proofs.Seen.{own, look, lengths-hold, width-is}
 use Rattle.history.proofs.Seats.{stateBy, Seated}
 use Rattle.history.proofs.SoundLaws.{pair-seen}
-use Rattle.history.proofs.Moves.{never, recorded-seated}
+use Rattle.history.proofs.RecordMoves.{recorded-seated}
+use Rattle.history.proofs.RecordLaws.{new-sound, run-sound, run-holds, bitmap-flags, flags-hold, bitmap-sound}
 use Rattle.history.proofs.Removal.{owners-gone, gone-seated}
 use Rattle.history.proofs.Held.{heldThen, owner-changed}
-use Rattle.history.proofs.Looks.{granule-undamaged}
 use Rattle.history.proofs.Kept.{usual, Kept, sure, tests-kept}
+use Rattle.history.proofs.Looks.{granule-undamaged}
 
 -- a record that is not a guest's lets a granule hold nothing
-dead-vacant : (d : MapWord) → mayHold zeroGuest (stateBy d) ≡ true → d ≡ map-word.Vacant
+pub dead-vacant : (d : MapWord) → mayHold zeroGuest (stateBy d) ≡ true → d ≡ map-word.Vacant
 dead-vacant map-word.Vacant h = refl
 dead-vacant (map-word.Frame true f) h = cc
 dead-vacant (map-word.Frame false f) h = cc
@@ -80,77 +76,6 @@ undamaged-all frames v g (w ∷ ws) h =
     let first : granuleUndamaged (granuleState frames v g (mapWordOf w)) ≡ true = rw add-zero at (h 0 (omega arith)) in
     rw first (undamaged-all frames v (suc g) ws (λ k l. rw (suc-add, ← (add-suc g k)) (h (suc k) (omega arith))))
 
-new-sound : SoundRecord newGuest
-new-sound = record { dead = λ e. never (sym e); limits = λ r. on r; enrolled = λ e. never e }
-  where
-    on : (r : FirmwareRegister) → withinLimit r (bitmapOf r newGuest) ≡ true
-    on Std = refl
-    on StdHyp = refl
-    on VendorHyp = refl
-    on Unknown = refl
-
--- a live guest with other flags or bitmaps
-run-sound : (g : Guest) → SoundRecord g → g .live ≡ true → SoundRecord (markRun g)
-run-sound g k live = record { dead = λ e. never (sym e ∙ live); limits = λ r. on r (k .limits r); enrolled = λ e. refl }
-  where
-    on : (r : FirmwareRegister) → withinLimit r (bitmapOf r g) ≡ true → withinLimit r (bitmapOf r (markRun g)) ≡ true
-    on Std h = h
-    on StdHyp h = h
-    on VendorHyp h = h
-    on Unknown h = h
-
-run-holds : (g : Guest) (k : GranuleState) → mayHold g k ≡ true → mayHold (markRun g) k ≡ true
-run-holds g granule-state.Vacant h = h
-run-holds g (granule-state.Frame true f) h = refl
-run-holds g (granule-state.Frame false f) h = h
-run-holds g granule-state.Guarded h = h
-run-holds g granule-state.Damaged h = h
-
--- a bitmap that is written is within its limit, and the others are as before
-bitmap-within : (r q : FirmwareRegister) (x : ℕ) (g : Guest) → withinLimit r x ≡ true → withinLimit q (bitmapOf q g) ≡ true
-    → withinLimit q (bitmapOf q (withBitmap r x g)) ≡ true
-bitmap-within Std Std x g h k = h
-bitmap-within StdHyp Std x g h k = k
-bitmap-within VendorHyp Std x g h k = k
-bitmap-within Unknown Std x g h k = k
-bitmap-within Std StdHyp x g h k = k
-bitmap-within StdHyp StdHyp x g h k = h
-bitmap-within VendorHyp StdHyp x g h k = k
-bitmap-within Unknown StdHyp x g h k = k
-bitmap-within Std VendorHyp x g h k = k
-bitmap-within StdHyp VendorHyp x g h k = k
-bitmap-within VendorHyp VendorHyp x g h k = h
-bitmap-within Unknown VendorHyp x g h k = k
-bitmap-within r Unknown x g h k = refl
-
--- the flags of a record that keeps them
-record SameFlags (g h : Guest) : Type 0 where
-  live : h .live ≡ g .live
-  run : h .run ≡ g .run
-  enrolled : h .enrolled ≡ g .enrolled
-
-bitmap-flags : (r : FirmwareRegister) (x : ℕ) (g : Guest) → SameFlags g (withBitmap r x g)
-bitmap-flags Std x g = record { live = refl; run = refl; enrolled = refl }
-bitmap-flags StdHyp x g = record { live = refl; run = refl; enrolled = refl }
-bitmap-flags VendorHyp x g = record { live = refl; run = refl; enrolled = refl }
-bitmap-flags Unknown x g = record { live = refl; run = refl; enrolled = refl }
-
-flags-hold : (g h : Guest) → SameFlags g h → (k : GranuleState) → mayHold g k ≡ true → mayHold h k ≡ true
-flags-hold g h e granule-state.Vacant q = q
-flags-hold g h e (granule-state.Frame true f) q = e .run ∙ q
-flags-hold g h e (granule-state.Frame false f) q = e .live ∙ q
-flags-hold g h e granule-state.Guarded q = e .enrolled ∙ q
-flags-hold g h e granule-state.Damaged q = q
-
-bitmap-sound : (r : FirmwareRegister) (x : ℕ) (g : Guest) → SoundRecord g → g .live ≡ true → withinLimit r x ≡ true → SoundRecord (withBitmap r x g)
-bitmap-sound r x g k live h =
-    let e = bitmap-flags r x g in
-    record {
-      dead = λ q. never (sym q ∙ e .live ∙ live);
-      limits = λ q. bitmap-within r q x g h (k .limits q);
-      enrolled = λ q. e .run ∙ k .enrolled (sym (e .enrolled) ∙ q);
-    }
-
 shown-usual : (live : Bool) (row : List ℕ) → usual (numbersOf (shownUnless (firstRefusal ((live, NoGuest) ∷ [])) row .answer)) ≡ true
 unfolding numbersOf
 shown-usual true row = refl
@@ -168,7 +93,7 @@ module _ {F W : ℕ} {s : State} (i : Seated F W s) where
   dead-row : (v g : ℕ) → v < 8 → g < W → guestOf (s .monitor) v .live ≡ false → look W s v g ≡ map-word.Vacant
   dead-row v g h l e = dead-vacant (look W s v g) (rw (i .records v h .dead e) at (i .holds v g h l))
 
-  free-row : (v : ℕ) → (v < 8 → guestOf (s .monitor) v .live ≡ false) → rowVacant (rowOf (s .map) v) ≡ true
+  pub free-row : (v : ℕ) → (v < 8 → guestOf (s .monitor) v .live ≡ false) → rowVacant (rowOf (s .map) v) ≡ true
   free-row v dead = vacant-all (rowOf (s .map) v) (λ g l. on g l (decLt v 8))
     where
       on : (g : ℕ) → g < length (rowOf (s .map) v) → Dec (v < 8) → getD (rowOf (s .map) v) g 0 ≡ mapBits map-word.Vacant
@@ -178,7 +103,7 @@ module _ {F W : ℕ} {s : State} (i : Seated F W s) where
           sym (map-encode-decode (getD (rowOf (s .map) v) g 0) (λ q. let z : _≡_ {A = ℕ} 0 1 = cc in omega arith)) ∙ ap mapBits vacant
       on g l (no n) = absurd (omega (arith, row-length-none (s .map) v (omega arith)))
 
-  row-undamaged : (v : ℕ) → v < 8 → rowUndamaged (s .frames) v (rowOf (s .map) v) ≡ true
+  pub row-undamaged : (v : ℕ) → v < 8 → rowUndamaged (s .frames) v (rowOf (s .map) v) ≡ true
   row-undamaged v h =
       undamaged-all (s .frames) v 0 (rowOf (s .map) v) (λ g l.
       let p = row-seen v g h l in

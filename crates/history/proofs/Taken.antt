@@ -1,5 +1,7 @@
 -- What a step that is taken has written: the granule's map word, and the word of the frame that it names, if any.
 use mathlib.Core.Path.{_≡_, refl, subst}
+use mathlib.Core.Logic.{_≢_}
+use mathlib.Core.Bool.{Bool, true, false, cond}
 use mathlib.Core.List.{List}
 use Prim.Native.Nat.{ℕ, suc, _<_}
 use native.Mathlib.Omega.{arith}
@@ -12,12 +14,73 @@ use Rattle.words.specs.FrameWord.{frameBits}
 use Rattle.tables.specs.Length.{widthOf}
 use Rattle.tables.specs.Row.{wordIndex, wordAt}
 use Rattle.tables.specs.Pair.{granuleState}
-use Rattle.granules.specs.Kind.{wordWith, frameThen, changeOf}
+use Rattle.tables.specs.declared.pairs.GranuleState.{GranuleState}
+use Rattle.tables.specs.declared.pairs.GranuleState.the-variants as granule-state
+use Rattle.tables.proofs.Found.{mapWordBy}
+use Rattle.granules.specs.Kind.{wordWith, frameThen, changeOf, isOf, bare}
 use Rattle.granules.specs.Step.{Place, place, written, stepFrom, tableStep}
 use Rattle.granules.specs.declared.kinds.Operation.{Operation}
 use Rattle.granules.specs.declared.kinds.Change.{Change}
 use Rattle.granules.specs.declared.kinds.Change.the-variants.{Damaged, Refused, Bare, WithFrame}
+use Rattle.granules.specs.declared.kinds.Kind.{Kind}
+use Rattle.granules.specs.declared.kinds.Kind.the-variants.{Vacant, Private, Shared, Guarded}
 use Rattle.granules.proofs.Lent.{taken}
+use Rattle.granules.proofs.ChangeLaws.{with-frame}
+use Rattle.history.proofs.Tied.{NamesNone}
+
+-- whether a granule of a kind has a frame
+abbrev pub hasFrame : Kind → Bool
+hasFrame Vacant = false
+hasFrame Private = true
+hasFrame Shared = true
+hasFrame Guarded = false
+
+-- a granule without a frame gets a word without one
+pub record Barely (o : Operation) (k : GranuleState) (w : ℕ) : Type 0 where
+  pub before : NamesNone (mapWordBy k)
+  pub undamaged : k ≢ granule-state.Damaged
+  pub word : w ≡ mapBits (wordWith (o .makes) 0)
+  pub after : NamesNone (wordWith (o .makes) 0)
+
+bare-kind : (m : Kind) (w : ℕ) → Bare w ≡ bare m → (w ≡ mapBits (wordWith m 0)) × NamesNone (wordWith m 0)
+bare-kind Vacant w e = (cc, tt)
+bare-kind Private w e = let z : _≡_ {A = ℕ} 0 1 = cc in absurd (omega arith)
+bare-kind Shared w e = let z : _≡_ {A = ℕ} 0 1 = cc in absurd (omega arith)
+bare-kind Guarded w e = (cc, tt)
+
+bare-if : (x : Bool) (m : Kind) (w : ℕ) → Bare w ≡ cond x (bare m) Refused → Bare w ≡ bare m
+bare-if true m w e = e
+bare-if false m w e = let z : _≡_ {A = ℕ} 0 1 = cc in absurd (omega arith)
+
+frame-if : (x : Bool) (f w : ℕ) → Bare w ≡ cond x (WithFrame f) Refused → ⊥
+frame-if true f w e = let z : _≡_ {A = ℕ} 0 1 = cc in omega arith
+frame-if false f w e = let z : _≡_ {A = ℕ} 0 1 = cc in omega arith
+
+pub barely : (o : Operation) (k : GranuleState) (w : ℕ) → Bare w ≡ changeOf o k → Barely o k w
+unfolding changeOf
+barely o granule-state.Vacant w e =
+    let p = bare-kind (o .makes) w (bare-if (isOf (o .needs) granule-state.Vacant) (o .makes) w e) in
+    record { before = tt; undamaged = λ q. let z : _≡_ {A = ℕ} 0 1 = cc in omega arith; word = p .0; after = p .1 }
+barely o (granule-state.Frame b f) w e = absurd (frame-if (isOf (o .needs) (granule-state.Frame b f)) f w e)
+barely o granule-state.Guarded w e =
+    let p = bare-kind (o .makes) w (bare-if (isOf (o .needs) granule-state.Guarded) (o .makes) w e) in
+    record { before = tt; undamaged = λ q. let z : _≡_ {A = ℕ} 0 1 = cc in omega arith; word = p .0; after = p .1 }
+barely o granule-state.Damaged w e = let z : _≡_ {A = ℕ} 0 1 = cc in absurd (omega arith)
+
+-- a granule with a frame is not of a kind without one
+framed-if : (x : Bool) (f k : ℕ) → WithFrame f ≡ cond x (WithFrame k) Refused → x ≡ true
+framed-if true f k e = refl
+framed-if false f k e = let z : _≡_ {A = ℕ} 0 1 = cc in absurd (omega arith)
+
+pub framed : (o : Operation) (b : Bool) (f : ℕ) → WithFrame f ≡ changeOf o (granule-state.Frame b f) → hasFrame (o .needs) ≡ true
+unfolding changeOf
+framed o b f e = on (o .needs) (framed-if (isOf (o .needs) (granule-state.Frame b f)) f f e)
+  where
+    on : (k : Kind) → isOf k (granule-state.Frame b f) ≡ true → hasFrame k ≡ true
+    on Vacant h = h
+    on Private h = refl
+    on Shared h = refl
+    on Guarded h = h
 
 module _ (o : Operation) (v : ℕ) (map frames : List ℕ) (g : ℕ) (P : Place → Type 0) where
   abbrev i : ℕ

@@ -22,10 +22,9 @@ use Rattle.granules.specs.declared.kinds.Kind.the-variants.{Vacant, Private, Sh
 use Rattle.granules.specs.declared.kinds.Operation.{Operation}
 use Rattle.granules.specs.declared.kinds.Change.{Change}
 use Rattle.granules.specs.declared.kinds.Change.the-variants.{Damaged, Refused, Bare, WithFrame}
-use Rattle.history.proofs.Seen.{look, width-is}
+use Rattle.history.proofs.Seen.{never, look, width-is}
 use Rattle.history.proofs.Seats.{Seated}
 use Rattle.history.proofs.SoundLaws.{pair-seen}
-use Rattle.history.proofs.Moves.{never}
 use Rattle.history.proofs.Looks.{granule-undamaged, below-width}
 
 -- a step refuses for damage only where its granule is damaged

@@ -1,11 +1,14 @@
 -- "Histories start from fresh tables, and only these calls write them."
+use mathlib.Core.Path.{_≡_}
 use mathlib.Core.Bool.{Bool, true, false, not}
 use mathlib.Core.List.{List, [], _∷_}
+use Prim.Native.Nat.{ℕ, _*_}
+use Rattle.tables.specs.Length.{lengthsHold}
 use Rattle.tables.specs.declared.pairs.FrameState.{FrameState}
 use Rattle.tables.specs.declared.pairs.FrameState.the-variants as frame-state
 use Rattle.records.specs.Answer.{numbersOf}
 use Rattle.records.specs.State.{State}
-use Rattle.calls.specs.Step.{step}
+use Rattle.calls.specs.Step.{step, stateAfter, freshState}
 use Rattle.calls.specs.declared.call.Call.{Call}
 use Rattle.history.specs.Log.{Entry}
 
@@ -20,3 +23,11 @@ privateOrWaiting frame-state.Host = false
 privateOrWaiting frame-state.Waiting = true
 privateOrWaiting (frame-state.Owned v shared g) = not shared
 privateOrWaiting frame-state.Damaged = false
+
+-- some calls leave this state, from fresh tables of lengths that document 01 allows
+pub record Reachable (s : State) : Type 0 where
+  pub F : ℕ
+  pub W : ℕ
+  pub allowed : lengthsHold F (8 * W) ≡ true
+  pub calls : List Call
+  pub leaves : stateAfter calls (freshState F W) ≡ s

@@ -1,0 +1,138 @@
+-- Calls of which no test refuses, and the states that they leave.
+use mathlib.Core.Path.{_≡_, refl, sym, ap, _∙_}
+use mathlib.Core.Bool.{true, false}
+use mathlib.Core.List.{[], _∷_}
+use mathlib.Core.Option.{none}
+use Prim.Native.Nat.{ℕ, suc, _+_, _*_, _%_, _<_}
+use native.Mathlib.Omega.{arith}
+use borrow.Author.Tests.{lt-ltb, eq-eqb}
+use lib.ListN.{set}
+use Rattle.runs.specs.Run.{took, run}
+use Rattle.words.specs.Granule.{addressOf, isBase}
+use Rattle.words.specs.MapWord.{mapBits, mapWordOf}
+use Rattle.words.specs.FrameWord.{frameBits}
+use Rattle.words.specs.declared.map_word.MapWord.the-variants as map-word
+use Rattle.words.specs.declared.frame_word.FrameWord.the-variants as frame-word
+use Rattle.words.proofs.GranuleLaws.{granule-address}
+use Rattle.tables.specs.Row.{wordAt}
+use Rattle.tables.specs.Pair.{granuleState}
+use Rattle.records.specs.Monitor.{newGuest, enroll, guestOf, withGuest}
+use Rattle.records.specs.State.{State, state, Answered}
+use Rattle.records.specs.Tests.{Tests, firstRefusal, unlessRefused}
+use Rattle.records.proofs.MonitorLaws.{live-slot}
+use Rattle.records.proofs.TestLaws.{Passes}
+use Rattle.granules.specs.Kind.{changeOf, sharing, guarding}
+use Rattle.granules.specs.Step.{place, stepFrom, tableStep}
+use Rattle.functions.specs.Function.{functionOf}
+use Rattle.functions.specs.Table.{rowOf, actionOf}
+use Rattle.functions.specs.declared.rows.Registers.{Registers}
+use Rattle.guest.specs.Calls.{actOf, hypercallOf}
+use Rattle.host_registers.specs.Registers.{registerNumbered, writeTests, bitmapWritten, registerWriteOf}
+use Rattle.host_donation.specs.Calls.{donateTests, donated, donateOf}
+use Rattle.host_guests.specs.Calls.{freeSlot, createTests, created, createOf, runTests, ran, runOf}
+use Rattle.host_removal.specs.Calls.{removeTests, removed, removeOf}
+use Rattle.calls.specs.Step.{step}
+use Rattle.calls.specs.declared.call.Call.the-variants.{Create, Donate, Run, Remove, RegisterWrite, Hypercall}
+use Rattle.history.proofs.Seen.{own, look, lengths-hold, width-is}
+use Rattle.history.proofs.Seats.{stateBy, Seated}
+use Rattle.history.proofs.SoundLaws.{pair-seen, granule-found, frame-found}
+use Rattle.history.proofs.SlotCalls.{free-row, row-undamaged}
+
+passed : {A : Type 0} (ts : Tests A) → Passes ts → firstRefusal ts ≡ none
+passed [] p = refl
+passed (t ∷ ts) p = rw (p .0) (passed ts (p .1))
+
+done : (ts : Tests _) (s : State) (r : Answered) → Passes ts → unlessRefused (firstRefusal ts) s r ≡ r
+done ts s r p = rw (passed ts p)
+
+module _ {F W : ℕ} {s : State} (i : Seated F W s) where
+  pub does-create : (v : ℕ) → freeSlot (s .monitor) ≡ v → v < 8 → guestOf (s .monitor) v .live ≡ false
+      → step Create s .left ≡ state (s .frames) (s .map) (withGuest (s .monitor) v newGuest)
+  unfolding step createOf
+  does-create v e h dead =
+      rw e
+      (ap (λ (r : Answered). r .left)
+      (done (createTests (s .frames) (s .map) v) s (created v s) (lengths-hold (i .sized), (free-row i v (λ l. dead), (lt-ltb v 8 h, tt)))))
+
+  pub does-donate : (v f g : ℕ) → guestOf (s .monitor) v .live ≡ true → f < F → g < W → own s f ≡ frame-word.Host → look W s v g ≡ map-word.Vacant
+      → step (Donate v f g) s .left ≡ donated v f g s .left
+  unfolding step donateOf
+  does-donate v f g live h l host vacant =
+      let granule = granule-found i v g (live-slot (s .monitor) v live) l in
+      let frame = frame-found i f h in
+      ap (λ (r : Answered). r .left)
+      (done (donateTests (s .frames) (s .map) v f g (guestOf (s .monitor) v)) s (donated v f g s) (
+        lengths-hold (i .sized),
+        (
+          live,
+          (
+            rw (i .sized .frame-words) (lt-ltb f F h),
+            (
+              rw (width-is (i .sized)) (lt-ltb g W l),
+              (rw (granule, vacant), (rw (frame, host), (rw (frame, host), (rw (granule, vacant), tt)))),
+            ),
+          ),
+        ),
+      ))
+
+  pub does-run : (v : ℕ) → guestOf (s .monitor) v .live ≡ true → step (Run v) s .left ≡ ran v s .left
+  unfolding step runOf
+  does-run v live = ap (λ (r : Answered). r .left) (done (runTests (guestOf (s .monitor) v)) s (ran v s) (live, tt))
+
+  pub does-remove : (v : ℕ) → guestOf (s .monitor) v .live ≡ true → step (Remove v) s .left ≡ removed v s .left
+  unfolding step removeOf
+  does-remove v live =
+      ap (λ (r : Answered). r .left)
+      (done (removeTests (s .frames) (s .map) v (guestOf (s .monitor) v)) s (removed v s)
+      (lengths-hold (i .sized), (live, (row-undamaged i v (live-slot (s .monitor) v live), tt))))
+
+  -- VENDOR_HYP, register 2, written with 0
+  pub does-write : (v : ℕ) → guestOf (s .monitor) v .live ≡ true → guestOf (s .monitor) v .run ≡ false → step (RegisterWrite v 2 0) s .left ≡ bitmapWritten v 2 0 s .left
+  unfolding step registerWriteOf registerNumbered
+  does-write v live fresh =
+      ap (λ (r : Answered). r .left)
+      (done (writeTests (guestOf (s .monitor) v) (registerNumbered 2) 0) s (bitmapWritten v 2 0 s) (live, (refl, (refl, (rw fresh, tt)))))
+
+-- registers of a call at granule g that asks for one granule
+abbrev pub asking : ℕ → ℕ → Registers
+asking number g = record { r0 = number; r1 = addressOf g; r2 = 0; r3 = 0 }
+
+base-is : (g : ℕ) → isBase (addressOf g) ≡ true
+base-is g = eq-eqb (addressOf g % 4096) 0 (omega arith)
+
+module _ {F W : ℕ} {s : State} (i : Seated F W s) (v : ℕ) (live : guestOf (s .monitor) v .live ≡ true) (has-run : guestOf (s .monitor) v .run ≡ true) where
+  slot : v < 8
+  slot = live-slot (s .monitor) v live
+
+  pub does-enroll : step (Hypercall v (asking 0xC6000006 0)) s .left ≡ state (s .frames) (s .map) (withGuest (s .monitor) v (enroll (guestOf (s .monitor) v)))
+  unfolding step hypercallOf functionOf rowOf actionOf actOf
+  does-enroll = rw (lengths-hold (i .sized), live, has-run)
+
+  module _ (g : ℕ) (below : g < W) where
+    found : (k : _) → look W s v g ≡ k → granuleState (s .frames) v g (mapWordOf (wordAt (s .map) v g)) ≡ stateBy k
+    unfolding look
+    found k e =
+        let seen : granuleState (s .frames) v g (mapWordOf (wordAt (s .map) v g)) ≡ granuleState (s .frames) v g (look W s v g) = rw (width-is (i .sized)) in
+        seen ∙ sym (pair-seen (i .sized) v g slot below) ∙ granule-found i v g slot below ∙ ap stateBy e
+
+    shares : (f : ℕ) → look W s v g ≡ map-word.Frame false f
+        → tableStep sharing v (place (s .map) (s .frames) g)
+        ≡ took (place (set (s .map) (v * W + g) (mapBits (map-word.Frame true f))) (set (s .frames) f (frameBits (frame-word.Owned v true g))) (suc g))
+    unfolding stepFrom changeOf
+    shares f e = rw (found (map-word.Frame false f) e, width-is (i .sized), lt-ltb g W below)
+
+    pub does-share : (f : ℕ) → look W s v g ≡ map-word.Frame false f
+        → step (Hypercall v (asking 0xC6000003 g)) s .left
+        ≡ state (set (s .frames) f (frameBits (frame-word.Owned v true g))) (set (s .map) (v * W + g) (mapBits (map-word.Frame true f))) (s .monitor)
+    unfolding step hypercallOf functionOf rowOf actionOf actOf
+    does-share f e = rw (lengths-hold (i .sized), live, has-run, base-is g, granule-address g, shares f e)
+
+    guards : look W s v g ≡ map-word.Vacant
+        → tableStep guarding v (place (s .map) (s .frames) g) ≡ took (place (set (s .map) (v * W + g) (mapBits map-word.Guarded)) (s .frames) (suc g))
+    unfolding stepFrom changeOf
+    guards e = rw (found map-word.Vacant e, width-is (i .sized), lt-ltb g W below)
+
+    pub does-guard : guestOf (s .monitor) v .enrolled ≡ true → look W s v g ≡ map-word.Vacant
+        → step (Hypercall v (asking 0xC6000007 g)) s .left ≡ state (s .frames) (set (s .map) (v * W + g) (mapBits map-word.Guarded)) (s .monitor)
+    unfolding step hypercallOf functionOf rowOf actionOf actOf
+    does-guard enrolled e = rw (lengths-hold (i .sized), live, has-run, base-is g, enrolled, granule-address g, guards e)

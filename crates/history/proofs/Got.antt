@@ -1,0 +1,68 @@
+-- States that some calls leave from fresh tables, and one call more.
+use mathlib.Core.Path.{_≡_, refl, ap, _∙_}
+use mathlib.Core.Logic.{_≢_}
+use mathlib.Core.Bool.{Bool, true, false}
+use mathlib.Core.List.{List, [], _∷_, _++_}
+use Prim.Native.Nat.{ℕ, zero, suc, _<_, _≤_}
+use native.Mathlib.Decide.{decLt}
+use native.Mathlib.Omega.{arith}
+use Rattle.words.specs.declared.frame_word.FrameWord.{FrameWord}
+use Rattle.records.specs.State.{State}
+use Rattle.calls.specs.Step.{step, stateAfter, freshState}
+use Rattle.calls.specs.declared.call.Call.{Call}
+use Rattle.history.proofs.Seen.{own, at-or-not}
+use Rattle.history.proofs.Seats.{Seated}
+
+pub record Got (F W : ℕ) (s : State) : Type 0 where
+  pub calls : List Call
+  pub leaves : stateAfter calls (freshState F W) ≡ s
+
+more : (cs : List Call) (c : Call) (s : State) → stateAfter (cs ++ (c ∷ [])) s ≡ step c (stateAfter cs s) .left
+more [] c s = refl
+more (d ∷ cs) c s = more cs c (step d s .left)
+
+pub got-next : {F W : ℕ} {s t : State} → Got F W s → (c : Call) → step c s .left ≡ t → Got F W t
+got-next {F} {W} g c e = record {
+  calls = g .calls ++ (c ∷ []);
+  leaves = more (g .calls) c (freshState F W) ∙ ap (λ (s : State). step c s .left) (g .leaves) ∙ e;
+}
+
+-- States of a class C, of which each frame with a certain word can be undone: a state of C before it has that frame otherwise.
+pub record Undone (F W : ℕ) (C : State → Type 0) (word : FrameWord → Bool) (s : State) (n : ℕ) : Type 0 where
+  pub before : State
+  pub seated : Seated F W before
+  pub class : C before
+  pub frame : word (own before n) ≡ false
+  pub frames : (f : ℕ) → f ≢ n → own before f ≡ own s f
+  pub undone : Got F W before → Got F W s
+
+module _ (F W : ℕ) (C : State → Type 0) (word : FrameWord → Bool)
+    (base : (s : State) → Seated F W s → C s → ((f : ℕ) → f < F → word (own s f) ≡ false) → Got F W s)
+    (undo : (s : State) → Seated F W s → C s → (n : ℕ) → n < F → word (own s n) ≡ true → Undone F W C word s n) where
+  -- no frame from the n-th on has such a word
+  abbrev NoneFrom : ℕ → State → Type 0
+  NoneFrom n s = (f : ℕ) → f < F → n ≤ f → word (own s f) ≡ false
+
+  from-got : (n : ℕ) (s : State) → Seated F W s → C s → NoneFrom n s → Got F W s
+  from-got zero s i c none = base s i c (λ f h. none f h (omega arith))
+  from-got (suc n) s i c none = on (decLt n F) (λ t j d f. from-got n t j d f)
+    where
+      Next : Type 0
+      Next = (t : State) → Seated F W t → C t → NoneFrom n t → Got F W t
+
+      fewer : (t : State) → word (own t n) ≡ false → ((f : ℕ) → f < F → f ≢ n → suc n ≤ f → word (own t f) ≡ false) → NoneFrom n t
+      fewer t here there f l m =
+          at-or-not (λ x. x < F → n ≤ x → word (own t x) ≡ false) n f (λ a b. here) (λ q a b. there f a q (omega arith)) l m
+
+      by : n < F → (b : Bool) → word (own s n) ≡ b → Next → Got F W s
+      by h true e next =
+          let u = undo s i c n h e in
+          u .undone (next (u .before) (u .seated) (u .class) (fewer (u .before) (u .frame) (λ f l q m. ap word (u .frames f q) ∙ none f l m)))
+      by h false e next = next s i c (fewer s e (λ f l q m. none f l m))
+
+      on : Dec (n < F) → Next → Got F W s
+      on (yes h) next = by h (word (own s n)) refl next
+      on (no h) next = next s i c (λ f l m. none f l (omega arith))
+
+  pub frames-got : (s : State) → Seated F W s → C s → Got F W s
+  frames-got s i c = from-got F s i c (λ f l m. absurd (omega arith))

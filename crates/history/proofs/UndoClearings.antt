@@ -1,0 +1,187 @@
+-- Every sound state without a live guest is got: each frame that waits was donated to a first guest, which was removed.
+use mathlib.Core.Path.{_≡_, refl, sym, ap, _∙_}
+use mathlib.Core.Logic.{_≢_}
+use mathlib.Core.Bool.{Bool, true, false}
+use mathlib.Core.List.{[]}
+use Prim.Native.Nat.{ℕ, _+_, _*_, _<_}
+use native.Mathlib.Omega.{arith}
+use lib.Dec.{eqb}
+use lib.ListN.{set}
+use Rattle.words.specs.FrameWord.{frameBits}
+use Rattle.words.specs.MapWord.{mapBits}
+use Rattle.words.specs.declared.map_word.MapWord.the-variants as map-word
+use Rattle.words.specs.declared.frame_word.FrameWord.{FrameWord}
+use Rattle.words.specs.declared.frame_word.FrameWord.the-variants as frame-word
+use Rattle.words.proofs.Booleans.{both-true}
+use Rattle.tables.specs.Length.{framesHold, mapHolds, lengthsHold}
+use Rattle.tables.proofs.LengthLaws.{width-between}
+use Rattle.records.specs.Monitor.{zeroGuest, newGuest, guestOf, withGuest}
+use Rattle.records.specs.State.{State, state}
+use Rattle.records.specs.declared.guest.Guest.{Guest}
+use Rattle.records.specs.declared.monitor.Monitor.{Monitor}
+use Rattle.records.proofs.MonitorLaws.{guest-put, guest-fresh}
+use Rattle.host_guests.specs.Calls.{freeFrom, freeSlot}
+use Rattle.host_removal.specs.Calls.{removed}
+use Rattle.calls.specs.declared.call.Call.the-variants.{Create, Donate, Remove}
+use Rattle.history.proofs.Seen.{own, look, width-is, at-or-not}
+use Rattle.history.proofs.Seats.{Seated}
+use Rattle.history.proofs.Tied.{tied-named, tied-apart, FrameFree}
+use Rattle.history.proofs.Moves.{FramePut, GranulePut, pair-put, frame-put}
+use Rattle.history.proofs.RecordMoves.{recorded-seated}
+use Rattle.history.proofs.RecordLaws.{new-sound}
+use Rattle.history.proofs.Removal.{owners-gone, look-gone, look-there, gone-seated}
+use Rattle.history.proofs.Held.{heldThen}
+use Rattle.history.proofs.SlotCalls.{dead-vacant}
+use Rattle.history.proofs.CallsKept.{fresh-own, fresh-look, fresh-seated}
+use Rattle.history.proofs.SameState.{guest-back, same-state}
+use Rattle.history.proofs.Does.{does-create, does-donate, does-remove}
+use Rattle.history.proofs.Got.{Got, got-next, Undone, frames-got}
+
+abbrev pub AllDead : State → Type 0
+AllDead s = (v : ℕ) → v < 8 → guestOf (s .monitor) v ≡ zeroGuest
+
+abbrev isWaiting : FrameWord → Bool
+isWaiting frame-word.Host = false
+isWaiting frame-word.Waiting = true
+isWaiting (frame-word.Owned v b g) = false
+isWaiting frame-word.Damaged = false
+
+waiting-is : (d : FrameWord) → isWaiting d ≡ true → d ≡ frame-word.Waiting
+waiting-is frame-word.Host h = cc
+waiting-is frame-word.Waiting h = refl
+waiting-is (frame-word.Owned v b g) h = cc
+waiting-is frame-word.Damaged h = cc
+
+host-word : (d : FrameWord) → FrameFree d → isWaiting d ≡ false → d ≡ frame-word.Host
+host-word frame-word.Host h n = refl
+host-word frame-word.Waiting h n = cc
+host-word (frame-word.Owned v b g) h n = absurd h
+host-word frame-word.Damaged h n = absurd h
+
+module _ (F W : ℕ) where
+  dead-vacant-row : (s : State) → Seated F W s → AllDead s → (v g : ℕ) → v < 8 → g < W → look W s v g ≡ map-word.Vacant
+  dead-vacant-row s i dead v g h l = dead-vacant (look W s v g) (rw (dead v h) at (i .holds v g h l))
+
+  -- a frame of such a state is no guest's
+  dead-free : (s : State) → Seated F W s → AllDead s → (f : ℕ) → f < F → FrameFree (own s f)
+  dead-free s i dead f h = on (own s f) refl
+    where
+      on : (d : FrameWord) → own s f ≡ d → FrameFree d
+      on frame-word.Host e = tt
+      on frame-word.Waiting e = tt
+      on (frame-word.Owned v b g) e =
+          let p = i .seat v b g f h e in
+          let q = sym (dead-vacant-row s i dead v g (p .0) (p .1)) ∙ p .2 in
+          let z : _≡_ {A = ℕ} 0 1 = cc in
+          omega arith
+      on frame-word.Damaged e = i .whole f h e
+
+  free-held : (v : ℕ) (d : FrameWord) → FrameFree d → heldThen (λ u h. eqb u v) (λ u h. frame-word.Waiting) d ≡ d
+  free-held v frame-word.Host h = refl
+  free-held v frame-word.Waiting h = refl
+  free-held v (frame-word.Owned u b g) h = absurd h
+  free-held v frame-word.Damaged h = refl
+
+  first-free : (s : State) → AllDead s → freeSlot (s .monitor) ≡ 0
+  unfolding freeFrom
+  first-free s dead = rw (dead 0 (omega arith))
+
+  module _ (n : ℕ) (s : State) (i : Seated F W s) (dead : AllDead s) (h : n < F) (wide : 0 < W) (e : own s n ≡ frame-word.Waiting) where
+    -- the frame is the host's; a guest in slot 0; the frame is donated to its granule 0
+    abbrev unclaimed : State
+    unclaimed = state (set (s .frames) n (frameBits frame-word.Host)) (s .map) (s .monitor)
+
+    abbrev joined : State
+    joined = state (unclaimed .frames) (s .map) (withGuest (s .monitor) 0 newGuest)
+
+    abbrev given : State
+    given =
+        state (set (joined .frames) n (frameBits (frame-word.Owned 0 false 0))) (set (s .map) (0 * W + 0) (mapBits (map-word.Frame false n))) (joined .monitor)
+
+    waits : FrameFree (own s n)
+    waits = rw e tt
+
+    unclaimed-put : FramePut F W s unclaimed n frame-word.Host
+    unclaimed-put = frame-put i n h waits frame-word.Host tt
+
+    vacant : (v g : ℕ) → v < 8 → g < W → look W unclaimed v g ≡ map-word.Vacant
+    vacant = dead-vacant-row unclaimed (unclaimed-put .seated) dead
+
+    joined-seated : Seated F W joined
+    joined-seated = recorded-seated (unclaimed-put .seated) 0 newGuest new-sound (λ g l q. rw (vacant 0 g (omega arith) l))
+
+    first : guestOf (joined .monitor) 0 ≡ newGuest
+    first = guest-put (s .monitor) 0 newGuest (omega arith) (omega (arith, i .sized .guests))
+
+    joined-host : own joined n ≡ frame-word.Host
+    unfolding own
+    joined-host = unclaimed-put .frame
+
+    joined-vacant : look W joined 0 0 ≡ map-word.Vacant
+    unfolding look
+    joined-vacant = vacant 0 0 (omega arith) wide
+
+    given-put : FramePut F W joined given n (frame-word.Owned 0 false 0) × GranulePut F W joined given 0 0 (map-word.Frame false n)
+    given-put =
+        pair-put joined-seated 0 0 n (omega arith) wide h (rw (joined-host, joined-vacant) (tied-apart 0 0 n frame-word.Host map-word.Vacant tt tt))
+        (frame-word.Owned 0 false 0) (map-word.Frame false n) (tied-named 0 0 n false) (rw first)
+
+    given-other : (f : ℕ) → f ≢ n → own given f ≡ own s f
+    unfolding own
+    given-other f m = given-put .0 .frames f m ∙ unclaimed-put .frames f m
+
+    look-other : (v g : ℕ) → g < W → v ≢ 0 → look W given v g ≡ look W s v g
+    unfolding look
+    look-other v g l m = given-put .1 .granules v g l (λ q. m (q .0))
+
+    gone-state : removed 0 given .left ≡ s
+    gone-state =
+        let j = given-put .0 .seated in
+        same-state (gone-seated j 0 (omega arith)) i
+        (λ f l. owners-gone j 0 (omega arith) f l ∙ at-or-not (λ k. k < F → heldThen (λ u x. eqb u 0) (λ u x. frame-word.Waiting) (own given k) ≡ own s k) n f
+        (λ m. rw (given-put .0 .frame) (sym e))
+        (λ m q. rw (given-other f m) (free-held 0 (own s f) (dead-free s i dead f q)))
+        l)
+        (λ v g l m. at-or-not (λ u. u < 8 → look W (removed 0 given .left) u g ≡ look W s u g) 0 v
+        (λ q. look-gone j 0 (omega arith) g m ∙ sym (dead-vacant-row s i dead 0 g q m))
+        (λ q r. look-there j 0 (omega arith) v g m q ∙ look-other v g m q)
+        l)
+        (λ v l. ap (λ (x : Monitor). guestOf x v) (guest-back (s .monitor) 0 newGuest zeroGuest (omega arith) (dead 0 (omega arith))))
+
+    clearing-undone : Got F W unclaimed → Got F W s
+    clearing-undone got =
+        let j = unclaimed-put .seated in
+        let a = got-next got Create (does-create j 0 (first-free unclaimed dead) (omega arith) (ap (λ (x : Guest). x .live) (dead 0 (omega arith)))) in
+        let b = got-next {t = given} a (Donate 0 n 0) (does-donate joined-seated 0 n 0 (ap (λ (x : Guest). x .live) first) h wide joined-host joined-vacant ∙ rw (width-is (joined-seated .sized))) in
+        got-next b (Remove 0) (does-remove (given-put .0 .seated) 0 (ap (λ (x : Guest). x .live) first) ∙ gone-state)
+
+  module _ (bounds : lengthsHold F (8 * W) ≡ true) where
+    wide : 0 < W
+    wide = omega (arith, width-between (8 * W) (both-true (framesHold F) (mapHolds (8 * W)) bounds .1))
+
+    -- no frame waits: the tables are fresh
+    fresh-got : (s : State) → Seated F W s → AllDead s → ((f : ℕ) → f < F → isWaiting (own s f) ≡ false) → Got F W s
+    fresh-got s i dead none = record {
+      calls = [];
+      leaves =
+          same-state (fresh-seated F W bounds) i
+          (λ f l. fresh-own F W bounds f l ∙ sym (host-word (own s f) (dead-free s i dead f l) (none f l)))
+          (λ v g l m. fresh-look F W bounds v g l m ∙ sym (dead-vacant-row s i dead v g l m))
+          (λ v l. guest-fresh v ∙ sym (dead v l));
+    }
+
+    undo : (s : State) → Seated F W s → AllDead s → (n : ℕ) → n < F → isWaiting (own s n) ≡ true → Undone F W AllDead isWaiting s n
+    undo s i dead n h w =
+        let e = waiting-is (own s n) w in
+        let put = unclaimed-put n s i dead h wide e in
+        record {
+          before = unclaimed n s i dead h wide e;
+          seated = put .seated;
+          class = dead;
+          frame = rw (put .frame);
+          frames = put .frames;
+          undone = clearing-undone n s i dead h wide e;
+        }
+
+    pub dead-got : (s : State) → Seated F W s → AllDead s → Got F W s
+    dead-got s i dead = frames-got F W AllDead isWaiting fresh-got undo s i dead

@@ -1,0 +1,66 @@
+-- Every sound state whose guests are all new and have nothing is got: they were created in turn.
+use mathlib.Core.Path.{_≡_, ap, _∙_}
+use mathlib.Core.Bool.{true, false, cond}
+use Prim.Native.Nat.{ℕ, zero, suc, _+_, _*_, _<_, _≤_}
+use native.Mathlib.Decide.{decLt}
+use native.Mathlib.Omega.{arith}
+use Rattle.words.specs.declared.map_word.MapWord.the-variants as map-word
+use Rattle.tables.specs.Length.{lengthsHold}
+use Rattle.records.specs.Monitor.{zeroGuest, newGuest, guestOf, withGuest}
+use Rattle.records.specs.State.{State, state}
+use Rattle.records.specs.declared.guest.Guest.{Guest}
+use Rattle.records.specs.declared.monitor.Monitor.{Monitor}
+use Rattle.records.proofs.MonitorLaws.{guest-put, guest-other}
+use Rattle.host_guests.specs.Calls.{freeFrom, freeSlot}
+use Rattle.calls.specs.declared.call.Call.the-variants.{Create}
+use Rattle.history.proofs.Seen.{look, at-or-not}
+use Rattle.history.proofs.Seats.{Seated}
+use Rattle.history.proofs.RecordMoves.{recorded-seated}
+use Rattle.history.proofs.RecordLaws.{zero-sound}
+use Rattle.history.proofs.SameState.{guest-back}
+use Rattle.history.proofs.Does.{does-create}
+use Rattle.history.proofs.Got.{Got, got-next}
+use Rattle.history.proofs.UndoClearings.{dead-got}
+
+-- the lowest free slot is n, if those below are live
+lowest : (m : Monitor) (n : ℕ) → guestOf m n .live ≡ false → (k v : ℕ) → v ≤ n → n < v + k → ((u : ℕ) → v ≤ u → u < n → guestOf m u .live ≡ true) → freeFrom m v k ≡ n
+unfolding freeFrom
+lowest m n dead zero v h l live = absurd (omega arith)
+lowest m n dead (suc k) v h l live = on (decLt v n) (λ a b c. lowest m n dead k (suc v) a b c)
+  where
+    on : Dec (v < n) → (suc v ≤ n → n < suc v + k → ((u : ℕ) → suc v ≤ u → u < n → guestOf m u .live ≡ true) → freeFrom m (suc v) k ≡ n)
+        → cond (guestOf m v .live) (freeFrom m (suc v) k) v ≡ n
+    on (yes a) more = rw (live v (omega arith) a) (more (omega arith) (omega arith) (λ u b c. live u (omega arith) c))
+    on (no a) more = let here : v ≡ n = omega arith in rw (here, dead)
+
+module _ (F W : ℕ) (bounds : lengthsHold F (8 * W) ≡ true) where
+  -- the first n slots have new guests, the others none, and every row is vacant
+  record NewUpTo (n : ℕ) (s : State) : Type 0 where
+    new : (v : ℕ) → v < n → guestOf (s .monitor) v ≡ newGuest
+    none : (v : ℕ) → v < 8 → n ≤ v → guestOf (s .monitor) v ≡ zeroGuest
+    vacant : (v g : ℕ) → v < 8 → g < W → look W s v g ≡ map-word.Vacant
+
+  creations-got : (n : ℕ) → n ≤ 8 → (s : State) → Seated F W s → NewUpTo n s → Got F W s
+  unfolding look
+  creations-got zero l s i k = dead-got F W bounds s i (λ v h. k .none v h (omega arith))
+  creations-got (suc n) l s i k =
+      let m = s .monitor in
+      let before = state (s .frames) (s .map) (withGuest m n zeroGuest) in
+      let slot : n < 8 = omega arith in
+      let is-new = k .new n (omega arith) in
+      let j : Seated F W before = recorded-seated i n zeroGuest zero-sound (λ g h q. rw (k .vacant n g slot h)) in
+      let here : guestOf (before .monitor) n ≡ zeroGuest = guest-put m n zeroGuest slot (omega (arith, i .sized .guests)) in
+      let there : (v : ℕ) → (v ≡ n → ⊥) → guestOf (before .monitor) v ≡ guestOf m v = λ v q. guest-other m n v zeroGuest q in
+      let got = creations-got n (omega arith) before j (record {
+        new = λ v h. there v (λ q. omega arith) ∙ k .new v (omega arith);
+        none = λ v h a. at-or-not (λ u. u < 8 → n ≤ u → guestOf (before .monitor) u ≡ zeroGuest) n v (λ b c. here) (λ q b c. there v q ∙ k .none v b (omega arith)) h a;
+        vacant = k .vacant;
+      }) in
+      let dead : guestOf (before .monitor) n .live ≡ false = ap (λ (x : Guest). x .live) here in
+      let free : freeSlot (before .monitor) ≡ n = lowest (before .monitor) n dead 8 0 (omega arith) (omega arith) (λ u a b.
+      ap (λ (x : Guest). x .live) (there u (λ q. omega arith) ∙ k .new u (omega arith))) in
+      got-next got Create (does-create j n free slot dead ∙ rw (guest-back m n zeroGuest newGuest slot is-new))
+
+  pub new-got : (s : State) → Seated F W s → ((v : ℕ) → v < 8 → guestOf (s .monitor) v ≡ newGuest)
+      → ((v g : ℕ) → v < 8 → g < W → look W s v g ≡ map-word.Vacant) → Got F W s
+  new-got s i new vacant = creations-got 8 (omega arith) s i (record { new = new; none = λ v h l. absurd (omega arith); vacant = vacant })

@@ -1,0 +1,180 @@
+-- Every sound state without shared and guarded granules is got: each slot's guest was new, then had its bitmap written, ran and enrolled, or
+-- was removed.
+use mathlib.Core.Path.{_≡_, refl, sym, ap, _∙_}
+use mathlib.Core.Bool.{Bool, true, false, cond}
+use Prim.Native.Nat.{ℕ, zero, suc, _*_, _<_, _≤_}
+use native.Mathlib.Omega.{arith}
+use borrow.Author.Tests.{leb-true, le-leb, ne-eqb}
+use lib.Dec.{eqb}
+use Rattle.words.specs.declared.map_word.MapWord.{MapWord}
+use Rattle.words.specs.declared.map_word.MapWord.the-variants as map-word
+use Rattle.words.specs.declared.frame_word.FrameWord.{FrameWord}
+use Rattle.words.specs.declared.frame_word.FrameWord.the-variants as frame-word
+use Rattle.tables.specs.Length.{lengthsHold}
+use Rattle.records.specs.Monitor.{zeroGuest, newGuest, markRun, enroll, guestOf, withGuest}
+use Rattle.records.specs.State.{State, state}
+use Rattle.records.specs.declared.guest.Guest.{Guest}
+use Rattle.records.specs.declared.monitor.Monitor.{Monitor}
+use Rattle.records.proofs.MonitorLaws.{guest-put, guest-other, put-again}
+use Rattle.host_registers.specs.Registers.{registerNumbered, withBitmap}
+use Rattle.host_registers.specs.declared.registers.FirmwareRegister.the-variants.{Std, StdHyp, VendorHyp}
+use Rattle.host_removal.specs.Calls.{removed}
+use Rattle.calls.specs.declared.call.Call.the-variants.{Run, Remove, RegisterWrite, Hypercall}
+use Rattle.history.specs.Sound.{SoundRecord, mayHold}
+use Rattle.history.proofs.Seen.{never, own, look, at-or-not}
+use Rattle.history.proofs.Seats.{stateBy, Seated}
+use Rattle.history.proofs.RecordMoves.{recorded-seated}
+use Rattle.history.proofs.RecordLaws.{new-sound, run-sound, bitmap-sound}
+use Rattle.history.proofs.Removal.{owners-gone, look-gone, look-there, gone-seated}
+use Rattle.history.proofs.Held.{heldThen}
+use Rattle.history.proofs.SlotCalls.{dead-vacant}
+use Rattle.history.proofs.SameState.{guest-same, guest-back, same-state}
+use Rattle.history.proofs.Does.{asking, does-run, does-remove, does-write, does-enroll}
+use Rattle.history.proofs.Got.{Got, got-next}
+use Rattle.history.proofs.UndoDonations.{all-new-got}
+
+-- what a new guest may hold, any live one may
+plain-held : (g : Guest) (d : MapWord) → g .live ≡ true → mayHold newGuest (stateBy d) ≡ true → mayHold g (stateBy d) ≡ true
+plain-held g map-word.Vacant live h = refl
+plain-held g (map-word.Frame true f) live h = never h
+plain-held g (map-word.Frame false f) live h = live
+plain-held g map-word.Guarded live h = never h
+plain-held g map-word.Damaged live h = never h
+
+-- a new guest that has this bitmap, and then has run or not, and has enrolled or not
+abbrev written : ℕ → Guest
+written x = withBitmap VendorHyp x newGuest
+
+abbrev started : ℕ → Bool → Guest
+started x a = cond a (markRun (written x)) (written x)
+
+abbrev joined : ℕ → Bool → Bool → Guest
+joined x a b = cond b (enroll (started x a)) (started x a)
+
+abbrev fields : Bool → Bool → Bool → ℕ → ℕ → ℕ → Guest
+fields l a b x y z = record { live = l; run = a; enrolled = b; std = x; «std_hyp» = y; «vendor_hyp» = z }
+
+joined-is : (x : ℕ) (a b : Bool) → joined x a b ≡ fields true a b 0 0 x
+joined-is x true true = refl
+joined-is x true false = refl
+joined-is x false true = refl
+joined-is x false false = refl
+
+-- a live guest is one of these
+record-is : (g : Guest) → g .live ≡ true → SoundRecord g → joined (g .«vendor_hyp») (g .run) (g .enrolled) ≡ g
+record-is g live k =
+    let x = g .«vendor_hyp» in
+    let std : g .std ≡ 0 = omega (arith, leb-true (g .std) 0 (k .limits Std)) in
+    let hyp : g .«std_hyp» ≡ 0 = omega (arith, leb-true (g .«std_hyp») 0 (k .limits StdHyp)) in
+    let same : fields true (g .run) (g .enrolled) 0 0 x ≡ fields (g .live) (g .run) (g .enrolled) (g .std) (g .«std_hyp») x = rw (live, std, hyp) in
+    joined-is x (g .run) (g .enrolled) ∙ same
+
+-- the rows hold what new guests may hold
+abbrev pub Plain : ℕ → State → Type 0
+Plain W s = (v g : ℕ) → v < 8 → g < W → mayHold newGuest (stateBy (look W s v g)) ≡ true
+
+-- the record of slot n, by the calls that make it
+module _ (F W : ℕ) (s : State) (i : Seated F W s) (plain : Plain W s) (n : ℕ) (slot : n < 8) where
+  abbrev having : Guest → State
+  having r = state (s .frames) (s .map) (withGuest (s .monitor) n r)
+
+  having-seated : (r : Guest) → SoundRecord r → r .live ≡ true → Seated F W (having r)
+  having-seated r k live = recorded-seated i n r k (λ g l q. plain-held r (look W s n g) live (plain n g slot l))
+
+  guest-is : (r : Guest) → guestOf (withGuest (s .monitor) n r) n ≡ r
+  guest-is r = guest-put (s .monitor) n r slot (omega (arith, i .sized .guests))
+
+  having-then : (f : Guest → Guest) (r : Guest) → state (s .frames) (s .map) (withGuest (withGuest (s .monitor) n r) n (f (guestOf (withGuest (s .monitor) n r) n))) ≡ having (f r)
+  having-then f r = rw (guest-is r, put-again (s .monitor) n r (f r))
+
+  written-got : (x : ℕ) → x ≤ 1 → Got F W (having newGuest) → Got F W (having (written x))
+  unfolding registerNumbered
+  written-got zero h got =
+      got-next got (RegisterWrite n 2 0)
+      (does-write (having-seated newGuest new-sound refl) n (ap (λ (g : Guest). g .live) (guest-is newGuest)) (ap (λ (g : Guest). g .run) (guest-is newGuest))
+      ∙ having-then (λ g. withBitmap VendorHyp 0 g) newGuest)
+  written-got (suc zero) h got = got
+  written-got (suc (suc x)) h got = absurd (omega arith)
+
+  written-sound : (x : ℕ) → x ≤ 1 → SoundRecord (written x)
+  written-sound x h = bitmap-sound VendorHyp x newGuest new-sound refl (le-leb x 1 h)
+
+  started-got : (x : ℕ) → x ≤ 1 → (a : Bool) → Got F W (having (written x)) → Got F W (having (started x a))
+  started-got x h true got =
+      got-next got (Run n)
+      (does-run (having-seated (written x) (written-sound x h) refl) n (ap (λ (g : Guest). g .live) (guest-is (written x))) ∙ having-then markRun (written x))
+  started-got x h false got = got
+
+  joined-got : (x : ℕ) → x ≤ 1 → (a b : Bool) → (b ≡ true → a ≡ true) → Got F W (having (started x a)) → Got F W (having (joined x a b))
+  joined-got x h true true k got =
+      let r = markRun (written x) in
+      got-next got (Hypercall n (asking 0xC6000006 0))
+      (does-enroll (having-seated r (run-sound (written x) (written-sound x h) refl) refl) n (ap (λ (g : Guest). g .live) (guest-is r)) (ap (λ (g : Guest). g .run) (guest-is r))
+      ∙ having-then enroll r)
+  joined-got x h false true k got = never (k refl)
+  joined-got x h a false k got = got
+
+  -- a live guest
+  live-got : guestOf (s .monitor) n .live ≡ true → Got F W (having newGuest) → Got F W s
+  live-got live got =
+      let g = guestOf (s .monitor) n in
+      let k = i .records n slot in
+      let x = g .«vendor_hyp» in
+      let few : x ≤ 1 = leb-true x 1 (k .limits VendorHyp) in
+      let all = joined-got x few (g .run) (g .enrolled) (k .enrolled) (started-got x few (g .run) (written-got x few got)) in
+      rw (record-is g live k, guest-same (s .monitor) n g slot refl) at all
+
+  -- a slot without a guest
+  module _ (dead : guestOf (s .monitor) n .live ≡ false) where
+    none : guestOf (s .monitor) n ≡ zeroGuest
+    none = i .records n slot .dead dead
+
+    vacant : (g : ℕ) → g < W → look W s n g ≡ map-word.Vacant
+    vacant g l = dead-vacant (look W s n g) (rw none at (i .holds n g slot l))
+
+    -- whose frames none are
+    unowned : (f : ℕ) → f < F → (d : FrameWord) → own s f ≡ d → heldThen (λ u h. eqb u n) (λ u h. frame-word.Waiting) d ≡ d
+    unowned f h frame-word.Host e = refl
+    unowned f h frame-word.Waiting e = refl
+    unowned f h (frame-word.Owned u b g) e =
+        rw (ne-eqb u n (λ q.
+        let p = i .seat u b g f h e in
+        let y : map-word.Vacant ≡ map-word.Frame b f = sym (vacant g (p .1)) ∙ rw (← q) (p .2) in
+        let z : _≡_ {A = ℕ} 0 1 = cc in
+        omega arith))
+    unowned f h frame-word.Damaged e = refl
+
+    removed-is : removed n (having newGuest) .left ≡ s
+    unfolding own look
+    removed-is =
+        let j = having-seated newGuest new-sound refl in
+        same-state (gone-seated j n slot) i
+        (λ f l. owners-gone j n slot f l ∙ unowned f l (own s f) refl)
+        (λ v g l m. at-or-not (λ u. look W (removed n (having newGuest) .left) u g ≡ look W s u g) n v
+        (look-gone j n slot g m ∙ sym (vacant g m))
+        (λ q. look-there j n slot v g m q))
+        (λ v l. ap (λ (x : Monitor). guestOf x v) (guest-back (s .monitor) n newGuest zeroGuest slot none))
+
+    dead-got : Got F W (having newGuest) → Got F W s
+    dead-got got = got-next got (Remove n) (does-remove (having-seated newGuest new-sound refl) n (ap (λ (g : Guest). g .live) (guest-is newGuest)) ∙ removed-is)
+
+  slot-got : (b : Bool) → guestOf (s .monitor) n .live ≡ b → Got F W (having newGuest) → Got F W s
+  slot-got true e got = live-got e got
+  slot-got false e got = dead-got e got
+
+module _ (F W : ℕ) (bounds : lengthsHold F (8 * W) ≡ true) where
+  records-got : (n : ℕ) → n ≤ 8 → (s : State) → Seated F W s → Plain W s → ((v : ℕ) → v < 8 → n ≤ v → guestOf (s .monitor) v ≡ newGuest) → Got F W s
+  unfolding look
+  records-got zero l s i plain new = all-new-got F W bounds s i (λ v h. new v h (omega arith))
+  records-got (suc n) l s i plain new =
+      let slot : n < 8 = omega arith in
+      let t = state (s .frames) (s .map) (withGuest (s .monitor) n newGuest) in
+      slot-got F W s i plain n slot (guestOf (s .monitor) n .live) refl
+      (records-got n (omega arith) t (having-seated F W s i plain n slot newGuest new-sound refl) plain (λ v h m.
+      at-or-not (λ u. u < 8 → n ≤ u → guestOf (t .monitor) u ≡ newGuest) n v
+      (λ a b. guest-is F W s i plain n slot newGuest)
+      (λ q a b. guest-other (s .monitor) n v newGuest q ∙ new v a (omega arith))
+      h m))
+
+  pub plain-got : (s : State) → Seated F W s → Plain W s → Got F W s
+  plain-got s i plain = records-got 8 (omega arith) s i plain (λ v h l. absurd (omega arith))

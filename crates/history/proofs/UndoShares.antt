@@ -1,0 +1,70 @@
+-- Every sound state is got: its shared granules were shared.
+use mathlib.Core.Path.{_≡_, refl, _∙_}
+use mathlib.Core.Bool.{true, false}
+use Prim.Native.Nat.{ℕ, _+_, _*_, _<_}
+use lib.ListN.{set}
+use Rattle.words.specs.MapWord.{mapBits}
+use Rattle.words.specs.FrameWord.{frameBits}
+use Rattle.words.specs.declared.map_word.MapWord.the-variants as map-word
+use Rattle.words.specs.declared.frame_word.FrameWord.{FrameWord}
+use Rattle.words.specs.declared.frame_word.FrameWord.the-variants as frame-word
+use Rattle.tables.specs.Length.{lengthsHold}
+use Rattle.records.specs.Monitor.{guestOf}
+use Rattle.records.specs.State.{State, state}
+use Rattle.calls.specs.declared.call.Call.the-variants.{Hypercall}
+use Rattle.history.proofs.Seen.{never, own}
+use Rattle.history.proofs.Seats.{Says, Seated}
+use Rattle.history.proofs.Tied.{tied-named}
+use Rattle.history.proofs.Moves.{FramePut, GranulePut, pair-put}
+use Rattle.history.proofs.SameState.{frame-back, map-back}
+use Rattle.history.proofs.Does.{asking, does-share}
+use Rattle.history.proofs.Got.{Got, got-next, Undone, frames-got}
+use Rattle.history.proofs.UndoGuards.{run-live, isShared, unshared-got}
+
+module _ (F W : ℕ) (bounds : lengthsHold F (8 * W) ≡ true) where
+  -- of every state
+  abbrev Any : State → Type 0
+  Any s = Unit {0}
+
+  module _ (s : State) (i : Seated F W s) (n : ℕ) (h : n < F) (v g : ℕ) (e : own s n ≡ frame-word.Owned v true g) where
+    said : Says W s v true g n
+    said = i .seat v true g n h e
+
+    has-run : guestOf (s .monitor) v .run ≡ true
+    has-run = rw (said .2) at (i .holds v g (said .0) (said .1))
+
+    live : guestOf (s .monitor) v .live ≡ true
+    live = run-live (guestOf (s .monitor) v) (i .records v (said .0)) has-run
+
+    abbrev unshared : State
+    unshared = state (set (s .frames) n (frameBits (frame-word.Owned v false g))) (set (s .map) (v * W + g) (mapBits (map-word.Frame false n))) (s .monitor)
+
+    unshared-put : FramePut F W s unshared n (frame-word.Owned v false g) × GranulePut F W s unshared v g (map-word.Frame false n)
+    unshared-put =
+        pair-put i v g n (said .0) (said .1) h (rw (e, said .2) (tied-named v g n true)) (frame-word.Owned v false g) (map-word.Frame false n) (tied-named v g n false) live
+
+    share-undone : Got F W unshared → Got F W s
+    share-undone got =
+        got-next got (Hypercall v (asking 0xC6000003 g))
+        (does-share (unshared-put .0 .seated) v live has-run g (said .1) n (unshared-put .1 .granule)
+        ∙ rw
+        (frame-back i n (frameBits (frame-word.Owned v false g)) (frame-word.Owned v true g) h e, map-back i v g (mapBits (map-word.Frame false n)) (map-word.Frame true n) (said .0) (said .1) (said .2)))
+
+  undo : (s : State) → Seated F W s → (n : ℕ) → n < F → (d : FrameWord) → own s n ≡ d → isShared d ≡ true → Undone F W Any isShared s n
+  undo s i n h frame-word.Host e w = never w
+  undo s i n h frame-word.Waiting e w = never w
+  undo s i n h (frame-word.Owned v true g) e w =
+      let put = unshared-put s i n h v g e .0 in
+      record {
+        before = unshared s i n h v g e;
+        seated = put .seated;
+        class = tt;
+        frame = rw (put .frame);
+        frames = put .frames;
+        undone = share-undone s i n h v g e;
+      }
+  undo s i n h (frame-word.Owned v false g) e w = never w
+  undo s i n h frame-word.Damaged e w = never w
+
+  pub seated-got : (s : State) → Seated F W s → Got F W s
+  seated-got s i = frames-got F W Any isShared (λ t j c none. unshared-got F W bounds t j none) (λ t j c n h w. undo t j n h (own t n) refl w) s i tt
