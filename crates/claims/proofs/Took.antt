@@ -4,9 +4,6 @@ use mathlib.Core.Logic.{_≢_}
 use mathlib.Core.Bool.{Bool}
 use mathlib.Core.List.{List}
 use Prim.Native.Nat.{ℕ, suc, _<_}
-use native.Mathlib.Omega.{arith}
-use borrow.Author.Tests.{ltb-true}
-use lib.Dec.{ltb}
 use lib.ListN.{length, getD, set, length-set}
 use lib.Seq.{getD-set-other}
 use Rattle.runs.specs.Run.{took}
@@ -17,12 +14,12 @@ use Rattle.tables.specs.Length.{widthOf}
 use Rattle.tables.specs.Row.{wordIndex, wordAt}
 use Rattle.tables.specs.Pair.{granuleState}
 use Rattle.granules.specs.Kind.{wordWith, frameThen, changeOf}
-use Rattle.granules.specs.Step.{Place, place, written, stepFrom, tableStep}
+use Rattle.granules.specs.Step.{Place, place, tableStep}
 use Rattle.granules.specs.declared.kinds.Operation.{Operation}
 use Rattle.granules.specs.declared.kinds.Change.{Change}
-use Rattle.granules.specs.declared.kinds.Change.the-variants.{Damaged, Refused, Bare, WithFrame}
+use Rattle.granules.specs.declared.kinds.Change.the-variants.{Bare, WithFrame}
 use Rattle.granules.proofs.ChangeLaws.{writable}
-use Rattle.granules.proofs.Lent.{taken}
+use Rattle.history.proofs.Taken.{step-wrote}
 
 -- what a step at granule g of slot v leaves as it was
 pub record Took (v : ℕ) (map frames : List ℕ) (g : ℕ) (map′ frames′ : List ℕ) (g′ : ℕ) : Type 0 where
@@ -37,46 +34,37 @@ abbrev pub TookTo : ℕ → Place → Place → Type 0
 TookTo v (place map frames g) (place map′ frames′ g′) = Took v map frames g map′ frames′ g′
 
 module _ (o : Operation) (v : ℕ) (map frames : List ℕ) (g : ℕ) where
-  -- the step's change, where it is written
-  change-took : (d : Change) → d ≡ changeOf o (granuleState frames v g (mapWordOf (wordAt map v g))) → g < widthOf (length map)
-      → (t : Place) → written (o .makes) v (wordIndex (length map) v g) map frames g d ≡ took t → TookTo v (place map frames g) t
-  change-took Damaged h below t e = let z : _≡_ {A = ℕ} 0 1 = cc in absurd (omega arith)
-  change-took Refused h below t e = let z : _≡_ {A = ℕ} 0 1 = cc in absurd (omega arith)
-  change-took (Bare w) h below (place map′ frames′ g′) e =
-      let i = wordIndex (length map) v g in
-      let to-map : map′ ≡ set map i w = cc in
-      let to-frames : frames′ ≡ frames = cc in
-      rw (to-map, to-frames)
-      (record {
-        below = below;
-        next-granule = cc;
-        map-length = length-set map i w;
-        frame-length = refl;
-        map-words = λ j n. getD-set-other map i j w 0 n;
-        frame-words = λ f n. refl;
-      })
-  change-took (WithFrame f) h below (place map′ frames′ g′) e =
-      let i = wordIndex (length map) v g in
+  abbrev i : ℕ
+  i = wordIndex (length map) v g
+
+  -- the change that is written, by what the granule's word says
+  abbrev change : Change
+  change = changeOf o (granuleState frames v g (mapWordOf (wordAt map v g)))
+
+  bare-took : (w : ℕ) → g < widthOf (length map) → Bare w ≡ change → TookTo v (place map frames g) (place (set map i w) frames (suc g))
+  bare-took w below h = record {
+    below = below;
+    next-granule = refl;
+    map-length = length-set map i w;
+    frame-length = refl;
+    map-words = λ j n. getD-set-other map i j w 0 n;
+    frame-words = λ f n. refl;
+  }
+
+  frame-took : (f : ℕ) → g < widthOf (length map) → WithFrame f ≡ change
+      → TookTo v (place map frames g) (place (set map i (mapBits (wordWith (o .makes) f))) (set frames f (frameBits (frameThen (o .makes) v g))) (suc g))
+  frame-took f below h =
       let w = mapBits (wordWith (o .makes) f) in
       let x = frameBits (frameThen (o .makes) v g) in
-      let to-map : map′ ≡ set map i w = cc in
-      let to-frames : frames′ ≡ set frames f x = cc in
-      let k = granuleState frames v g (mapWordOf (wordAt map v g)) in
-      let named = writable o frames v g (wordAt map v g) k refl f h in
-      rw (to-map, to-frames)
-      (record {
+      let named = writable o frames v g (wordAt map v g) (granuleState frames v g (mapWordOf (wordAt map v g))) refl f h in
+      record {
         below = below;
-        next-granule = cc;
+        next-granule = refl;
         map-length = length-set map i w;
         frame-length = length-set frames f x;
         map-words = λ j n. getD-set-other map i j w 0 n;
         frame-words = λ j n. getD-set-other frames f j x 0 (λ same. n (named .sharing) (rw same (named .word)));
-      })
+      }
 
   pub step-took : (t : Place) → tableStep o v (place map frames g) ≡ took t → TookTo v (place map frames g) t
-  unfolding stepFrom
-  step-took t e =
-      let w = widthOf (length map) in
-      let d = changeOf o (granuleState frames v g (mapWordOf (wordAt map v g))) in
-      let p = taken (ltb g w) (written (o .makes) v (wordIndex (length map) v g) map frames g d) t e in
-      change-took d refl (ltb-true g w (p .0)) t (p .1)
+  step-took t e = step-wrote o v map frames g (TookTo v (place map frames g)) bare-took frame-took t e

@@ -22,7 +22,7 @@ use Rattle.calls.specs.declared.call.Call.the-variants.{Create, Donate, Run, Re
 use Rattle.history.specs.Log.{FrameChange, afterCall, lastFrom}
 use Rattle.history.specs.History.{logOf}
 use Rattle.history.proofs.Seen.{own, look, index-below}
-use Rattle.history.proofs.Seats.{Seated}
+use Rattle.history.proofs.WordsSound.{WordsSound}
 use Rattle.history.proofs.RecordLaws.{zero-sound}
 use Rattle.history.proofs.Held.{ownerAfter}
 use Rattle.history.proofs.Kept.{Kept}
@@ -30,7 +30,7 @@ use Rattle.history.proofs.FrameCalls.{keep-donate, keep-cleared, keep-a
 use Rattle.history.proofs.SlotCalls.{keep-create, keep-run, keep-remove, keep-show, keep-read, keep-write}
 use Rattle.history.proofs.GuestCalls.{keep-hypercall, keep-abort}
 
-pub keep : {F W : ℕ} {s : State} → Seated F W s → (c : Call) → Kept F W s c (step c s)
+pub keep : {F W : ℕ} {s : State} → WordsSound F W s → (c : Call) → Kept F W s c (step c s)
 unfolding step
 keep i Create = keep-create i
 keep i (Donate v f g) = keep-donate i v f g
@@ -45,16 +45,16 @@ keep i (Hypercall v r) = keep-hypercall i v r
 keep i (Abort v a) = keep-abort i v a
 
 module _ {F W : ℕ} where
-  pub calls-seated : (cs : List Call) (s : State) → Seated F W s → Seated F W (stateAfter cs s)
-  calls-seated [] s i = i
-  calls-seated (c ∷ cs) s i = calls-seated cs (step c s .left) (keep i c .seated)
+  pub calls-sound : (cs : List Call) (s : State) → WordsSound F W s → WordsSound F W (stateAfter cs s)
+  calls-sound [] s i = i
+  calls-sound (c ∷ cs) s i = calls-sound cs (step c s .left) (keep i c .sound)
 
   -- the words say what the log says
-  pub calls-logged : (cs : List Call) (s : State) → Seated F W s → (f : ℕ) → f < F → (x : FrameChange) → own s f ≡ ownerAfter x
+  pub calls-logged : (cs : List Call) (s : State) → WordsSound F W s → (f : ℕ) → f < F → (x : FrameChange) → own s f ≡ ownerAfter x
       → own (stateAfter cs s) f ≡ ownerAfter (lastFrom f x (logOf cs s))
   calls-logged [] s i f h x e = e
   calls-logged (c ∷ cs) s i f h x e =
-      calls-logged cs (step c s .left) (keep i c .seated) f h (afterCall f c (numbersOf (step c s .answer)) x) (keep i c .logged f h x e)
+      calls-logged cs (step c s .left) (keep i c .sound) f h (afterCall f c (numbersOf (step c s .answer)) x) (keep i c .logged f h x e)
 
 -- fresh tables
 module _ (F W : ℕ) (bounds : lengthsHold F (8 * W) ≡ true) where
@@ -66,12 +66,12 @@ module _ (F W : ℕ) (bounds : lengthsHold F (8 * W) ≡ true) where
   unfolding look mapBits
   fresh-look v g h l = rw (getD-replicate {A = ℕ} (8 * W) (v * W + g) 0 0 (index-below W v g h l)) (map-decode-encode map-word.Vacant tt)
 
-  pub fresh-seated : Seated F W (freshState F W)
-  fresh-seated = record {
+  pub fresh-sound : WordsSound F W (freshState F W)
+  fresh-sound = record {
     sized = record { bounds = bounds; frame-words = length-replicate F 0; map-words = length-replicate (8 * W) 0; guests = length-replicate 8 zeroGuest };
     records = λ v h. rw (guest-fresh v) zero-sound;
     whole = λ f h e. let y = sym (fresh-own f h) ∙ e in let z : _≡_ {A = ℕ} 0 1 = cc in omega arith;
-    seat = λ v b g f h e. let y = sym (fresh-own f h) ∙ e in let z : _≡_ {A = ℕ} 0 1 = cc in absurd (omega arith);
-    back = λ v b g f h l e. let y = sym (fresh-look v g h l) ∙ e in let z : _≡_ {A = ℕ} 0 1 = cc in absurd (omega arith);
+    says = λ v b g f h e. let y = sym (fresh-own f h) ∙ e in let z : _≡_ {A = ℕ} 0 1 = cc in absurd (omega arith);
+    says-back = λ v b g f h l e. let y = sym (fresh-look v g h l) ∙ e in let z : _≡_ {A = ℕ} 0 1 = cc in absurd (omega arith);
     holds = λ v g h l. rw (fresh-look v g h l);
   }

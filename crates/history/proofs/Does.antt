@@ -34,7 +34,7 @@ use Rattle.host_removal.specs.Calls.{removeTests, removed, removeOf}
 use Rattle.calls.specs.Step.{step}
 use Rattle.calls.specs.declared.call.Call.the-variants.{Create, Donate, Run, Remove, RegisterWrite, Hypercall}
 use Rattle.history.proofs.Seen.{own, look, lengths-hold, width-is}
-use Rattle.history.proofs.Seats.{stateBy, Seated}
+use Rattle.history.proofs.WordsSound.{stateBy, WordsSound}
 use Rattle.history.proofs.SoundLaws.{pair-seen, granule-found, frame-found}
 use Rattle.history.proofs.SlotCalls.{free-row, row-undamaged}
 
@@ -45,7 +45,7 @@ passed (t ∷ ts) p = rw (p .0) (passed ts (p .1))
 done : (ts : Tests _) (s : State) (r : Answered) → Passes ts → unlessRefused (firstRefusal ts) s r ≡ r
 done ts s r p = rw (passed ts p)
 
-module _ {F W : ℕ} {s : State} (i : Seated F W s) where
+module _ {F W : ℕ} {s : State} (i : WordsSound F W s) where
   pub does-create : (v : ℕ) → freeSlot (s .monitor) ≡ v → v < 8 → guestOf (s .monitor) v .live ≡ false
       → step Create s .left ≡ state (s .frames) (s .map) (withGuest (s .monitor) v newGuest)
   unfolding step createOf
@@ -100,7 +100,7 @@ asking number g = record { r0 = number; r1 = addressOf g; r2 = 0; r3 = 0 }
 base-is : (g : ℕ) → isBase (addressOf g) ≡ true
 base-is g = eq-eqb (addressOf g % 4096) 0 (omega arith)
 
-module _ {F W : ℕ} {s : State} (i : Seated F W s) (v : ℕ) (live : guestOf (s .monitor) v .live ≡ true) (has-run : guestOf (s .monitor) v .run ≡ true) where
+module _ {F W : ℕ} {s : State} (i : WordsSound F W s) (v : ℕ) (live : guestOf (s .monitor) v .live ≡ true) (has-run : guestOf (s .monitor) v .run ≡ true) where
   slot : v < 8
   slot = live-slot (s .monitor) v live
 

@@ -17,7 +17,7 @@ use Rattle.calls.specs.declared.call.Call.the-variants.{Donate, Cleared, Access
 use Rattle.history.specs.Log.{FrameChange}
 use Rattle.history.specs.Log as log
 use Rattle.history.proofs.Seen.{own, look, lengths-hold, width-is, at-or-not}
-use Rattle.history.proofs.Seats.{Seated}
+use Rattle.history.proofs.WordsSound.{WordsSound}
 use Rattle.history.proofs.SoundLaws.{granule-found, frame-found, frame-sound}
 use Rattle.history.proofs.Tied.{Tied, tied-named, tied-apart, FrameFree}
 use Rattle.history.proofs.Moves.{pair-put, frame-put}
@@ -33,7 +33,7 @@ one-logged s t f c here there k x =
     (λ e. rw (eq-eqb f f refl) here)
     (λ n e. rw (ne-eqb k f n) (there k n ∙ e))
 
-module _ {F W : ℕ} {s : State} (i : Seated F W s) where
+module _ {F W : ℕ} {s : State} (i : WordsSound F W s) where
   pub keep-donate : (v f g : ℕ) → Kept F W s (Donate v f g) (donateOf v f g s)
   unfolding donateOf numbersOf own
   keep-donate v f g =
@@ -72,7 +72,7 @@ module _ {F W : ℕ} {s : State} (i : Seated F W s) where
       let e = map-word.Frame false f in
       let put = pair-put i v g f slot below inside old d e (tied-named v g f false) live .0 in
       record {
-        seated = rw (width-is (i .sized)) (put .seated);
+        sound = rw (width-is (i .sized)) (put .sound);
         logged = λ k l x q.
             one-logged s (donated v f g s .left) f (log.donated v g) (put .frame) (put .frames) k x q;
         unhurt = refl;
@@ -98,7 +98,7 @@ module _ {F W : ℕ} {s : State} (i : Seated F W s) where
       let free : FrameFree (own s f) = rw waits tt in
       let put = frame-put i f inside free frame-word.Host tt in
       record {
-        seated = put .seated;
+        sound = put .sound;
         logged = λ k l x q.
             one-logged s (handedBack f s .left) f log.cleared (put .frame) (put .frames) k x q;
         unhurt = refl;
@@ -109,4 +109,4 @@ module _ {F W : ℕ} {s : State} (i : Seated F W s) where
   keep-access f =
       tests-kept i (Access f) (accessTests (s .frames) (s .map) f) (accessTold f s)
       (sure _ (lengths-hold (i .sized)), λ a. (λ q. (refl, refl), λ hf. (sure _ (frame-sound i f (below-frames i f hf)), λ b. tt)))
-      (λ p. record { seated = i; logged = λ k l x q. q; unhurt = refl })
+      (λ p. record { sound = i; logged = λ k l x q. q; unhurt = refl })

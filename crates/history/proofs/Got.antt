@@ -11,7 +11,7 @@ use Rattle.records.specs.State.{State}
 use Rattle.calls.specs.Step.{step, stateAfter, freshState}
 use Rattle.calls.specs.declared.call.Call.{Call}
 use Rattle.history.proofs.Seen.{own, at-or-not}
-use Rattle.history.proofs.Seats.{Seated}
+use Rattle.history.proofs.WordsSound.{WordsSound}
 
 pub record Got (F W : ℕ) (s : State) : Type 0 where
   pub calls : List Call
@@ -30,25 +30,25 @@ got-next {F} {W} g c e = record {
 -- States of a class C, of which each frame with a certain word can be undone: a state of C before it has that frame otherwise.
 pub record Undone (F W : ℕ) (C : State → Type 0) (word : FrameWord → Bool) (s : State) (n : ℕ) : Type 0 where
   pub before : State
-  pub seated : Seated F W before
+  pub sound : WordsSound F W before
   pub class : C before
   pub frame : word (own before n) ≡ false
   pub frames : (f : ℕ) → f ≢ n → own before f ≡ own s f
   pub undone : Got F W before → Got F W s
 
 module _ (F W : ℕ) (C : State → Type 0) (word : FrameWord → Bool)
-    (base : (s : State) → Seated F W s → C s → ((f : ℕ) → f < F → word (own s f) ≡ false) → Got F W s)
-    (undo : (s : State) → Seated F W s → C s → (n : ℕ) → n < F → word (own s n) ≡ true → Undone F W C word s n) where
+    (base : (s : State) → WordsSound F W s → C s → ((f : ℕ) → f < F → word (own s f) ≡ false) → Got F W s)
+    (undo : (s : State) → WordsSound F W s → C s → (n : ℕ) → n < F → word (own s n) ≡ true → Undone F W C word s n) where
   -- no frame from the n-th on has such a word
   abbrev NoneFrom : ℕ → State → Type 0
   NoneFrom n s = (f : ℕ) → f < F → n ≤ f → word (own s f) ≡ false
 
-  from-got : (n : ℕ) (s : State) → Seated F W s → C s → NoneFrom n s → Got F W s
+  from-got : (n : ℕ) (s : State) → WordsSound F W s → C s → NoneFrom n s → Got F W s
   from-got zero s i c none = base s i c (λ f h. none f h (omega arith))
   from-got (suc n) s i c none = on (decLt n F) (λ t j d f. from-got n t j d f)
     where
       Next : Type 0
-      Next = (t : State) → Seated F W t → C t → NoneFrom n t → Got F W t
+      Next = (t : State) → WordsSound F W t → C t → NoneFrom n t → Got F W t
 
       fewer : (t : State) → word (own t n) ≡ false → ((f : ℕ) → f < F → f ≢ n → suc n ≤ f → word (own t f) ≡ false) → NoneFrom n t
       fewer t here there f l m =
@@ -57,12 +57,12 @@ module _ (F W : ℕ) (C : State → Type 0) (word : FrameWord → Bool)
       by : n < F → (b : Bool) → word (own s n) ≡ b → Next → Got F W s
       by h true e next =
           let u = undo s i c n h e in
-          u .undone (next (u .before) (u .seated) (u .class) (fewer (u .before) (u .frame) (λ f l q m. ap word (u .frames f q) ∙ none f l m)))
+          u .undone (next (u .before) (u .sound) (u .class) (fewer (u .before) (u .frame) (λ f l q m. ap word (u .frames f q) ∙ none f l m)))
       by h false e next = next s i c (fewer s e (λ f l q m. none f l m))
 
       on : Dec (n < F) → Next → Got F W s
       on (yes h) next = by h (word (own s n)) refl next
       on (no h) next = next s i c (λ f l m. none f l (omega arith))
 
-  pub frames-got : (s : State) → Seated F W s → C s → Got F W s
+  pub frames-got : (s : State) → WordsSound F W s → C s → Got F W s
   frames-got s i c = from-got F s i c (λ f l m. absurd (omega arith))

@@ -32,15 +32,15 @@ use Rattle.guest.specs.Calls.{callerTests, rowTests, actOf, hypercallOf, access
 use Rattle.calls.specs.declared.call.Call.the-variants.{Hypercall, Abort}
 use Rattle.history.specs.Log.{shared, unshared, relinquished}
 use Rattle.history.proofs.Seen.{never, own, look, lengths-hold}
-use Rattle.history.proofs.Seats.{stateBy, Seated}
-use Rattle.history.proofs.RecordMoves.{recorded-seated}
+use Rattle.history.proofs.WordsSound.{stateBy, WordsSound}
+use Rattle.history.proofs.RecordMoves.{recorded-sound}
 use Rattle.history.proofs.RecordLaws.{enroll-sound, enroll-holds}
 use Rattle.history.proofs.Kept.{usual, Kept, sure, refused-kept, tests-kept}
 use Rattle.history.proofs.Looks.{granule-undamaged, below-width}
 use Rattle.history.proofs.Asked.{after-asked}
 use Rattle.history.proofs.RangeCalls.{error-fine, change-kept, moved, unmoved}
 
-module _ {F W : ℕ} {s : State} (i : Seated F W s) (v : ℕ) (r : Registers) (live : guestOf (s .monitor) v .live ≡ true) (has-run : guestOf (s .monitor) v .run ≡ true) where
+module _ {F W : ℕ} {s : State} (i : WordsSound F W s) (v : ℕ) (r : Registers) (live : guestOf (s .monitor) v .live ≡ true) (has-run : guestOf (s .monitor) v .run ≡ true) where
   abbrev slot : v < 8
   slot = live-slot (s .monitor) v live
 
@@ -61,7 +61,7 @@ module _ {F W : ℕ} {s : State} (i : Seated F W s) (v : ℕ) (r : Registers) (l
   function-kept Enroll is may =
       let g = guestOf (s .monitor) v in
       record {
-        seated = recorded-seated i v (enroll g) (enroll-sound g (i .records v slot) live has-run) (λ h l q. enroll-holds g (stateBy (look W s v h)) q);
+        sound = recorded-sound i v (enroll g) (enroll-sound g (i .records v slot) live has-run) (λ h l q. enroll-holds g (stateBy (look W s v h)) q);
         logged = λ f l x h. rw (after-asked v r 0 x, is) h;
         unhurt = refl;
       }
@@ -80,7 +80,7 @@ module _ {F W : ℕ} {s : State} (i : Seated F W s) (v : ℕ) (r : Registers) (l
       (λ j l. unmoved i v slot r RangeGuardUnmap is unguarding (suc j) refl)
   function-kept Unknown is may = refused-kept i (Hypercall v r) _ (refl, refl)
 
-module _ {F W : ℕ} {s : State} (i : Seated F W s) (v : ℕ) where
+module _ {F W : ℕ} {s : State} (i : WordsSound F W s) (v : ℕ) where
   pub keep-hypercall : (r : Registers) → Kept F W s (Hypercall v r) (hypercallOf v r s)
   unfolding hypercallOf numbersOf
   keep-hypercall r =
@@ -109,7 +109,7 @@ found-usual a g (granule-state.Frame b f) h = refl
 found-usual a g granule-state.Guarded h = refl
 found-usual a g granule-state.Damaged h = never h
 
-module _ {F W : ℕ} {s : State} (i : Seated F W s) (v : ℕ) where
+module _ {F W : ℕ} {s : State} (i : WordsSound F W s) (v : ℕ) where
   access-usual : (a : ℕ) → v < 8 → usual (numbersOf (accessOf (s .frames) (s .map) v a (guestOf (s .monitor) v))) ≡ true
   unfolding accessOf
   access-usual a slot = on (ltb (granuleOf a) (widthOf (length (s .map)))) refl
@@ -127,4 +127,4 @@ module _ {F W : ℕ} {s : State} (i : Seated F W s) (v : ℕ) where
       let g = guestOf (s .monitor) v in
       tests-kept i (Abort v a) (callerTests (length (s .frames)) (length (s .map)) g) (answered s (accessOf (s .frames) (s .map) v a g))
       (sure _ (lengths-hold (i .sized)), λ b. (λ q. (refl, refl), λ c. (λ q. (refl, refl), λ d. tt)))
-      (λ p. record { seated = i; logged = λ k l x q. q; unhurt = access-usual a (live-slot (s .monitor) v (p .1 .0)) })
+      (λ p. record { sound = i; logged = λ k l x q. q; unhurt = access-usual a (live-slot (s .monitor) v (p .1 .0)) })

@@ -27,14 +27,14 @@ use Rattle.history.specs.Log.{FrameChange, neverDonated, donated, shared
 use Rattle.history.specs.History.{logOf, privateOrWaiting, Reachable}
 use Rattle.history.specs.Sound.{Sound}
 use Rattle.history.proofs.Seen.{own, look, lengths-hold, width-is}
-use Rattle.history.proofs.Seats.{Seated}
-use Rattle.history.proofs.SoundLaws.{frameBy, frame-found, frame-sound, seated-sound, sound-seated}
+use Rattle.history.proofs.WordsSound.{WordsSound}
+use Rattle.history.proofs.SoundLaws.{frameBy, frame-found, frame-sound, words-sound, sound-words}
 use Rattle.history.proofs.Held.{ownerAfter}
-use Rattle.history.proofs.CallsKept.{keep, calls-seated, calls-logged, fresh-own, fresh-seated}
-use Rattle.history.proofs.UndoShares.{seated-got}
+use Rattle.history.proofs.CallsKept.{keep, calls-sound, calls-logged, fresh-own, fresh-sound}
+use Rattle.history.proofs.UndoShares.{sound-got}
 
 -- access answers for a frame that its word says to be so
-access-seen : {F W : ℕ} {s : State} → Seated F W s → (f : ℕ) → f < F → numbersOf (step (Access f) s .answer) ≡ verdictWith 0 (openTo (frameBy (own s f)))
+access-seen : {F W : ℕ} {s : State} → WordsSound F W s → (f : ℕ) → f < F → numbersOf (step (Access f) s .answer) ≡ verdictWith 0 (openTo (frameBy (own s f)))
 unfolding step hostAccessOf numbersOf
 access-seen {F} i f h = rw (lengths-hold (i .sized), i .sized .frame-words, lt-ltb f F h, frame-sound i f h, frame-found i f h)
 
@@ -62,7 +62,7 @@ closed frame-state.Damaged h = cc
 
 -- Of the exact invariant: every call keeps it.
 pub calls-keep-sound : (c : Call) (s : State) → Sound s → Sound (step c s .left)
-calls-keep-sound c s k = seated-sound (keep (sound-seated k) c .seated)
+calls-keep-sound c s k = words-sound (keep (sound-words k) c .sound)
 
 -- F frame words and 8 × W map words, and calls from there
 module _ (F W : ℕ) (frames-some : 1 ≤ F) (frames-few : F ≤ 16384) (width-some : 1 ≤ W) (width-few : W ≤ 4096) where
@@ -73,33 +73,33 @@ module _ (F W : ℕ) (frames-some : 1 ≤ F) (frames-few : F ≤ 16384) (width-s
       let width : 8 * W / 8 ≡ W = omega arith in
       rw (eights, width, le-leb 1 F frames-some, le-leb F 16384 frames-few, le-leb 1 W width-some, le-leb W 4096 width-few)
 
-  seated : (cs : List Call) → Seated F W (stateAfter cs (freshState F W))
-  seated cs = calls-seated cs (freshState F W) (fresh-seated F W allowed)
+  sound : (cs : List Call) → WordsSound F W (stateAfter cs (freshState F W))
+  sound cs = calls-sound cs (freshState F W) (fresh-sound F W allowed)
 
   -- it holds of fresh tables, and so in every history
   pub histories-are-sound : (cs : List Call) → Sound (stateAfter cs (freshState F W))
-  histories-are-sound cs = seated-sound (seated cs)
+  histories-are-sound cs = words-sound (sound cs)
 
   -- Condition 2: "After any calls from fresh tables, the host may access a frame exactly when it was never donated, or the last change to it
   -- was a share by its owner or a confirmed clearing, read off the history of calls and answers, not off our tables."
   pub host-access-by-history : (cs : List Call) (f : ℕ) → f < F
       → numbersOf (step (Access f) (stateAfter cs (freshState F W)) .answer) ≡ verdictWith 0 (openAfter (lastChange (logOf cs (freshState F W)) f))
   host-access-by-history cs f h =
-      access-seen (seated cs) f h
-      ∙ ap (λ (d : FrameWord). verdictWith 0 (openTo (frameBy d))) (calls-logged cs (freshState F W) (fresh-seated F W allowed) f h neverDonated (fresh-own F W allowed f h))
+      access-seen (sound cs) f h
+      ∙ ap (λ (d : FrameWord). verdictWith 0 (openTo (frameBy d))) (calls-logged cs (freshState F W) (fresh-sound F W allowed) f h neverDonated (fresh-own F W allowed f h))
       ∙ ap (verdictWith 0) (open-after (lastChange (logOf cs (freshState F W)) f))
 
   -- and a number of no frame is refused
   pub no-such-frame : (cs : List Call) (f : ℕ) → F ≤ f → numbersOf (step (Access f) (stateAfter cs (freshState F W)) .answer) ≡ verdictWith 4 0
   unfolding step hostAccessOf numbersOf
-  no-such-frame cs f h = rw (lengths-hold (seated cs .sized), seated cs .sized .frame-words, le-ltb f F h)
+  no-such-frame cs f h = rw (lengths-hold (sound cs .sized), sound cs .sized .frame-words, le-ltb f F h)
 
   -- In any history no call answers verdict 1 or 6.
   pub no-damage-in-histories : (cs : List Call) (c : Call)
       → (numbersOf (step c (stateAfter cs (freshState F W)) .answer) .verdict ≢ 1) × (numbersOf (step c (stateAfter cs (freshState F W)) .answer) .verdict ≢ 6)
   no-damage-in-histories cs c =
       let q = numbersOf (step c (stateAfter cs (freshState F W)) .answer) .verdict in
-      let p = both-true (not (eqb q 1)) (not (eqb q 6)) (keep (seated cs) c .unhurt) in
+      let p = both-true (not (eqb q 1)) (not (eqb q 6)) (keep (sound cs) c .unhurt) in
       (other-than q 1 (p .0), other-than q 6 (p .1))
 
   -- A frame that is private or waiting is never accessible.
@@ -108,7 +108,7 @@ module _ (F W : ℕ) (frames-some : 1 ≤ F) (frames-few : F ≤ 16384) (width-s
       → numbersOf (step (Access f) (stateAfter cs (freshState F W)) .answer) ≡ verdictWith 0 0
   private-or-waiting-closed cs f h e =
       let s = stateAfter cs (freshState F W) in
-      access-seen (seated cs) f h ∙ ap (verdictWith 0) (closed (frameBy (own s f)) (rw (frame-found (seated cs) f h) at e))
+      access-seen (sound cs) f h ∙ ap (verdictWith 0) (closed (frameBy (own s f)) (rw (frame-found (sound cs) f h) at e))
 
   -- Two granules never name one frame.
   pub one-granule-per-frame : (cs : List Call) (v g u h f : ℕ) (b c : Bool) → v < 8 → g < W → u < 8 → h < W
@@ -117,19 +117,19 @@ module _ (F W : ℕ) (frames-some : 1 ≤ F) (frames-few : F ≤ 16384) (width-s
       → (v ≡ u) × (g ≡ h)
   unfolding look
   one-granule-per-frame cs v g u h f b c hv hg hu hh p q =
-      let i = seated cs in
-      let first = i .back v b g f hv hg (rw (width-is (i .sized)) at p) .1 in
-      let second = i .back u c h f hu hh (rw (width-is (i .sized)) at q) .1 in
+      let i = sound cs in
+      let first = i .says-back v b g f hv hg (rw (width-is (i .sized)) at p) .1 in
+      let second = i .says-back u c h f hu hh (rw (width-is (i .sized)) at q) .1 in
       (cc, cc)
 
 -- The invariant is exact: it holds of the states that some calls leave, and of no others.
 pub reachable-exactly : (s : State) → (Reachable s → Sound s) × (Sound s → Reachable s)
 reachable-exactly s = (
-  λ r. subst Sound (r .leaves) (seated-sound (calls-seated (r .calls) (freshState (r .F) (r .W)) (fresh-seated (r .F) (r .W) (r .allowed)))),
+  λ r. subst Sound (r .leaves) (words-sound (calls-sound (r .calls) (freshState (r .F) (r .W)) (fresh-sound (r .F) (r .W) (r .allowed)))),
   λ k.
-      let i = sound-seated k in
+      let i = sound-words k in
       let F = length (s .frames) in
       let W = widthOf (length (s .map)) in
-      let got = seated-got F W (i .sized .bounds) s i in
+      let got = sound-got F W (i .sized .bounds) s i in
       record { F = F; W = W; allowed = i .sized .bounds; calls = got .calls; leaves = got .leaves },
 )

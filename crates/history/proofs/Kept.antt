@@ -16,7 +16,7 @@ use Rattle.calls.specs.declared.call.Call.{Call}
 use Rattle.calls.specs.declared.call.Call.the-variants.{Create, Donate, Run, Remove, Cleared, Access, Show, RegisterRead, RegisterWrite, Hypercall, Abort}
 use Rattle.history.specs.Log.{FrameChange, hostDone, guestDone, afterCall}
 use Rattle.history.proofs.Seen.{never, own}
-use Rattle.history.proofs.Seats.{Seated}
+use Rattle.history.proofs.WordsSound.{WordsSound}
 use Rattle.history.proofs.Held.{ownerAfter}
 
 -- neither of the verdicts 1 and 6
@@ -28,7 +28,7 @@ abbrev pub undone : Numbers → Bool
 undone n = not (hostDone n) && not (guestDone n)
 
 pub record Kept (F W : ℕ) (s : State) (c : Call) (r : Answered) : Type 0 where
-  pub seated : Seated F W (r .left)
+  pub sound : WordsSound F W (r .left)
   pub logged : (f : ℕ) → f < F → (x : FrameChange) → own s f ≡ ownerAfter x → own (r .left) f ≡ ownerAfter (afterCall f c (numbersOf (r .answer)) x)
   pub unhurt : usual (numbersOf (r .answer)) ≡ true
 
@@ -72,10 +72,10 @@ Refusals (t ∷ ts) = (t .0 ≡ false → Fine (t .1)) × (t .0 ≡ true → Ref
 pub sure : {A : Type 0} (b : Bool) → b ≡ true → b ≡ false → A
 sure b t f = never (sym f ∙ t)
 
-module _ {F W : ℕ} {s : State} (i : Seated F W s) (c : Call) where
+module _ {F W : ℕ} {s : State} (i : WordsSound F W s) (c : Call) where
   pub refused-kept : (a : Answer) → Fine a → Kept F W s c (answered s a)
   refused-kept a h = record {
-    seated = i;
+    sound = i;
     logged = λ f l x e. rw (undone-log f c (numbersOf a) x (h .0)) e;
     unhurt = h .1;
   }

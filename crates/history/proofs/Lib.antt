@@ -1,5 +1,5 @@
 pub mod Seen
-pub mod Seats
+pub mod WordsSound
 pub mod SoundLaws
 pub mod Tied
 pub mod Moves

@@ -21,7 +21,7 @@ use Rattle.host_donation.specs.Calls.{granuleVacant, frameHosts}
 use Rattle.host_frames.specs.Calls.{frameWaiting}
 use Rattle.history.specs.Sound.{mayHold}
 use Rattle.history.proofs.Seen.{width-is}
-use Rattle.history.proofs.Seats.{stateBy, Seated}
+use Rattle.history.proofs.WordsSound.{stateBy, WordsSound}
 use Rattle.history.proofs.SoundLaws.{granule-sound, frameBy}
 
 -- by the pair tests: what a granule may hold is undamaged, a host's frame has the host's word, and the like
@@ -49,7 +49,7 @@ vacant-word (map-word.Frame b f) h = cc
 vacant-word map-word.Guarded h = cc
 vacant-word map-word.Damaged h = cc
 
-module _ {F W : ℕ} {s : State} (i : Seated F W s) where
+module _ {F W : ℕ} {s : State} (i : WordsSound F W s) where
   -- the tests that soundness passes
   pub granule-undamaged : (v g : ℕ) → v < 8 → g < W → granuleUndamaged (pairAt (s .frames) (s .map) v g) ≡ true
   granule-undamaged v g h l = held-undamaged (guestOf (s .monitor) v) (pairAt (s .frames) (s .map) v g) (granule-sound i v g h l)

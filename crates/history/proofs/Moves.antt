@@ -19,7 +19,7 @@ use Rattle.records.specs.Monitor.{guestOf}
 use Rattle.records.specs.State.{State, state}
 use Rattle.history.specs.Sound.{mayHold}
 use Rattle.history.proofs.Seen.{own, look, Sized, at-most, index-below, frame-built, frame-other, map-built, map-other, never}
-use Rattle.history.proofs.Seats.{stateBy, Says, SaysBack, Seated, changed-seated}
+use Rattle.history.proofs.WordsSound.{stateBy, Says, SaysBack, WordsSound, changed-sound}
 use Rattle.history.proofs.Tied.{Tied, FrameFree, NamesNone, here, is-here, not-here, surely-here, free-sound, free-owned, none-named, free-fits, none-fits}
 
 module _ {F W : ℕ} {s : State} (z : Sized F W s) where
@@ -39,24 +39,24 @@ module _ {F W : ℕ} {s : State} (z : Sized F W s) where
 
   tied-map-fits : (v g f : ℕ) → f < F → (d : FrameWord) (e : MapWord) → Tied v g f d e → MapFits e
   tied-map-fits v g f h d map-word.Vacant t = tt
-  tied-map-fits v g f h d (map-word.Frame b k) t = let p = t .fro b k refl in omega (arith, at-most z)
+  tied-map-fits v g f h d (map-word.Frame b k) t = let p = t .from b k refl in omega (arith, at-most z)
   tied-map-fits v g f h d map-word.Guarded t = tt
   tied-map-fits v g f h d map-word.Damaged t = tt
 
 -- frame f, alone, has the word d in t, and the invariant is kept
 pub record FramePut (F W : ℕ) (s t : State) (f : ℕ) (d : FrameWord) : Type 0 where
-  pub seated : Seated F W t
+  pub sound : WordsSound F W t
   pub frame : own t f ≡ d
   pub frames : (k : ℕ) → k ≢ f → own t k ≡ own s k
 
 -- granule g of slot v, alone, has the word e in t, and the invariant is kept
 pub record GranulePut (F W : ℕ) (s t : State) (v g : ℕ) (e : MapWord) : Type 0 where
-  pub seated : Seated F W t
+  pub sound : WordsSound F W t
   pub granule : look W t v g ≡ e
   pub granules : (u h : ℕ) → h < W → ((u ≡ v) × (h ≡ g) → ⊥) → look W t u h ≡ look W s u h
 
 -- a granule with its frame
-module _ {F W : ℕ} {s : State} (i : Seated F W s) (v g f : ℕ) (hv : v < 8) (hg : g < W) (hf : f < F) (old : Tied v g f (own s f) (look W s v g))
+module _ {F W : ℕ} {s : State} (i : WordsSound F W s) (v g f : ℕ) (hv : v < 8) (hg : g < W) (hf : f < F) (old : Tied v g f (own s f) (look W s v g))
     (d : FrameWord) (e : MapWord) (new : Tied v g f d e) (may : mayHold (guestOf (s .monitor) v) (stateBy e) ≡ true) where
   abbrev paired : State
   paired = state (set (s .frames) f (frameBits d)) (set (s .map) (v * W + g) (mapBits e)) (s .monitor)
@@ -92,11 +92,11 @@ module _ {F W : ℕ} {s : State} (i : Seated F W s) (v g f : ℕ) (hv : v < 8) (
   named-back : (u : ℕ) (b : Bool) (h k : ℕ) → here v g u h ≡ true → look W paired u h ≡ map-word.Frame b k → SaysBack F paired u b h k
   named-back u b h k q o =
       let p = is-here v g u h q in
-      let r = new .fro b k (sym (granule-is u h p) ∙ o) in
+      let r = new .from b k (sym (granule-is u h p) ∙ o) in
       (omega arith, frame-is k (eq-eqb k f (r .0)) ∙ rw (p .0, p .1) (r .1))
 
-  paired-seated : Seated F W paired
-  paired-seated = changed-seated i (λ k. eqb k f) (here v g) (record {
+  paired-sound : WordsSound F W paired
+  paired-sound = changed-sound i (λ k. eqb k f) (here v g) (record {
     sized = sized-put (i .sized) f (v * W + g) (frameBits d) (mapBits e);
     records = i .records;
     frames-kept = λ k l q. own-unpaired k (eqb-false k f q);
@@ -105,18 +105,18 @@ module _ {F W : ℕ} {s : State} (i : Seated F W s) (v g f : ℕ) (hv : v < 8) (
     frames-within = λ u b h k l q o. let p = old .to u b h (rw (← (eqb-true k f q)) o) in surely-here v g u h (p .0) (p .1);
     granules-within = λ u b h k l m q o.
         let p = is-here v g u h q in
-        eq-eqb k f (old .fro b k (rw (← (p .0), ← (p .1)) o) .0);
-    frames-sound = λ k l q. rw (frame-is k q) (new .sound);
+        eq-eqb k f (old .from b k (rw (← (p .0), ← (p .1)) o) .0);
+    frames-sound = λ k l q. rw (frame-is k q) (new .whole);
     frames-named = named;
     granules-named = λ u b h k l m q o. named-back u b h k q o;
     granules-held = λ u h l m q. let p = is-here v g u h q in rw (granule-is u h p, p .0) may;
   })
 
   pub pair-put : FramePut F W s paired f d × GranulePut F W s paired v g e
-  pair-put = (record { seated = paired-seated; frame = own-paired; frames = own-unpaired }, record { seated = paired-seated; granule = look-paired; granules = look-unpaired })
+  pair-put = (record { sound = paired-sound; frame = own-paired; frames = own-unpaired }, record { sound = paired-sound; granule = look-paired; granules = look-unpaired })
 
 -- a frame that is no guest's, before and after
-module _ {F W : ℕ} {s : State} (i : Seated F W s) (f : ℕ) (hf : f < F) (old : FrameFree (own s f)) (d : FrameWord) (new : FrameFree d) where
+module _ {F W : ℕ} {s : State} (i : WordsSound F W s) (f : ℕ) (hf : f < F) (old : FrameFree (own s f)) (d : FrameWord) (new : FrameFree d) where
   abbrev freed : State
   freed = state (set (s .frames) f (frameBits d)) (s .map) (s .monitor)
 
@@ -131,9 +131,9 @@ module _ {F W : ℕ} {s : State} (i : Seated F W s) (f : ℕ) (hf : f < F) (old 
   freed-is : (k : ℕ) → eqb k f ≡ true → own freed k ≡ d
   freed-is k q = rw (eqb-true k f q) own-freed
 
-  freed-seated : Seated F W freed
+  freed-sound : WordsSound F W freed
   unfolding look
-  freed-seated = changed-seated i (λ k. eqb k f) (λ u h. false) (record {
+  freed-sound = changed-sound i (λ k. eqb k f) (λ u h. false) (record {
     sized = record {
       bounds = i .sized .bounds;
       frame-words = length-set (s .frames) f (frameBits d) ∙ i .sized .frame-words;
@@ -153,10 +153,10 @@ module _ {F W : ℕ} {s : State} (i : Seated F W s) (f : ℕ) (hf : f < F) (old 
   })
 
   pub frame-put : FramePut F W s freed f d
-  frame-put = record { seated = freed-seated; frame = own-freed; frames = own-unfreed }
+  frame-put = record { sound = freed-sound; frame = own-freed; frames = own-unfreed }
 
 -- a granule that names no frame, before and after
-module _ {F W : ℕ} {s : State} (i : Seated F W s) (v g : ℕ) (hv : v < 8) (hg : g < W) (old : NamesNone (look W s v g)) (e : MapWord) (new : NamesNone e)
+module _ {F W : ℕ} {s : State} (i : WordsSound F W s) (v g : ℕ) (hv : v < 8) (hg : g < W) (old : NamesNone (look W s v g)) (e : MapWord) (new : NamesNone e)
     (may : mayHold (guestOf (s .monitor) v) (stateBy e) ≡ true) where
   abbrev bared : State
   bared = state (s .frames) (set (s .map) (v * W + g) (mapBits e)) (s .monitor)
@@ -172,9 +172,9 @@ module _ {F W : ℕ} {s : State} (i : Seated F W s) (v g : ℕ) (hv : v < 8) (hg
   bared-is : (u h : ℕ) → here v g u h ≡ true → look W bared u h ≡ e
   bared-is u h q = let p = is-here v g u h q in rw (p .0, p .1) look-bared
 
-  bared-seated : Seated F W bared
+  bared-sound : WordsSound F W bared
   unfolding own
-  bared-seated = changed-seated i (λ k. false) (here v g) (record {
+  bared-sound = changed-sound i (λ k. false) (here v g) (record {
     sized = record {
       bounds = i .sized .bounds;
       frame-words = i .sized .frame-words;
@@ -196,4 +196,4 @@ module _ {F W : ℕ} {s : State} (i : Seated F W s) (v g : ℕ) (hv : v < 8) (hg
   })
 
   pub granule-put : GranulePut F W s bared v g e
-  granule-put = record { seated = bared-seated; granule = look-bared; granules = look-unbared }
+  granule-put = record { sound = bared-sound; granule = look-bared; granules = look-unbared }

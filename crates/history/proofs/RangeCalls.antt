@@ -24,7 +24,7 @@ use Rattle.guest.specs.Calls.{finished}
 use Rattle.calls.specs.declared.call.Call.the-variants.{Hypercall}
 use Rattle.history.specs.Log.{FrameChange, among, changedWhere}
 use Rattle.history.proofs.Seen.{own}
-use Rattle.history.proofs.Seats.{Seated}
+use Rattle.history.proofs.WordsSound.{WordsSound}
 use Rattle.history.proofs.Held.{ownerAfter, owner-changed, held-none}
 use Rattle.history.proofs.Taken.{hasFrame}
 use Rattle.history.proofs.Ranges.{mayMake, Reached, ReachedAt, range-reached}
@@ -38,7 +38,7 @@ error-fine NotSupported = (refl, refl)
 error-fine InvalidParameter = (refl, refl)
 
 -- what was told of a function that is done is what its range did
-module _ {F W : ℕ} {s : State} (i : Seated F W s) (v : ℕ) (slot : v < 8) (r : Registers) (asked : Function) (is : askedBy (r .r0) ≡ asked) where
+module _ {F W : ℕ} {s : State} (i : WordsSound F W s) (v : ℕ) (slot : v < 8) (r : Registers) (asked : Function) (is : askedBy (r .r0) ≡ asked) where
   abbrev pub g : ℕ
   g = granuleOf (r .r1)
 
@@ -53,7 +53,7 @@ module _ {F W : ℕ} {s : State} (i : Seated F W s) (v : ℕ) (slot : v < 8) (r 
       → Kept F W s (Hypercall v r) (finished e tells (s .monitor) (ended (suc j) (place map frames next) q))
   unfolding numbersOf
   done-kept o e tells j q map frames next logs at = record {
-    seated = at .seated;
+    sound = at .sound;
     logged = λ f l x h. rw (after-asked v r (cond tells (suc j) 0) x, is) (logs map frames next at f l x h);
     unhurt = refl;
   }
@@ -61,7 +61,7 @@ module _ {F W : ℕ} {s : State} (i : Seated F W s) (v : ℕ) (slot : v < 8) (r 
   error-kept : (o : Operation) (e : Error) (map frames : List ℕ) (next : ℕ) → Reached F W (s .monitor) o v s g 0 map frames next
       → Kept F W s (Hypercall v r) (answered (state frames map (s .monitor)) (errorAnswer e))
   error-kept o e map frames next at = record {
-    seated = at .seated;
+    sound = at .sound;
     logged = λ f l x h.
         rw (undone-log f (Hypercall v r) (numbersOf (errorAnswer e)) x (error-fine e .0))
         (at .owners f l ∙ held-none v g (frameThen (o .makes)) (own s f) ∙ h);

@@ -31,7 +31,7 @@ use Rattle.granules.proofs.ChangeLaws.{with-frame, writable}
 use Rattle.history.specs.Log.{among}
 use Rattle.history.specs.Sound.{mayHold}
 use Rattle.history.proofs.Seen.{never, own, look, width-is, at-or-not}
-use Rattle.history.proofs.Seats.{stateBy, Seated}
+use Rattle.history.proofs.WordsSound.{stateBy, WordsSound}
 use Rattle.history.proofs.Tied.{Tied, tied-named, tied-apart, NamesNone}
 use Rattle.history.proofs.Moves.{pair-put, granule-put}
 use Rattle.history.proofs.Held.{heldThen, held-none, held-next, held-here, held-elsewhere}
@@ -65,7 +65,7 @@ module _ (F W : ℕ) (m : Monitor) (o : Operation) (v : ℕ) where
   -- from s, at granule g, to a place n granules on
   pub record Reached (s : State) (g n : ℕ) (map frames : List ℕ) (next : ℕ) : Type 0 where
     pub at : next ≡ g + n
-    pub seated : Seated F W (state frames map m)
+    pub sound : WordsSound F W (state frames map m)
     pub owners : (f : ℕ) → f < F → own (state frames map m) f ≡ heldThen (among v g n) (frameThen (o .makes)) (own s f)
     pub same : hasFrame (o .needs) ≡ false → (f : ℕ) → f < F → own (state frames map m) f ≡ own s f
 
@@ -73,7 +73,7 @@ module _ (F W : ℕ) (m : Monitor) (o : Operation) (v : ℕ) where
   ReachedAt s g n (place map frames next) = Reached s g n map frames next
 
 module _ (F W : ℕ) (m : Monitor) (o : Operation) (v : ℕ) (hv : v < 8) (may : mayMake (guestOf m v) (o .makes) ≡ true) where
-  module _ (map frames : List ℕ) (g : ℕ) (i : Seated F W (state frames map m)) (hg : g < widthOf (length map)) where
+  module _ (map frames : List ℕ) (g : ℕ) (i : WordsSound F W (state frames map m)) (hg : g < widthOf (length map)) where
     abbrev s : State
     s = state frames map m
 
@@ -95,8 +95,8 @@ module _ (F W : ℕ) (m : Monitor) (o : Operation) (v : ℕ) (hv : v < 8) (may :
         let none : NamesNone (look W s v g) = rw says (k .before) in
         record {
           at = omega arith;
-          seated = rw (k .word, width-is (i .sized)) (granule-put i v g hv below none (wordWith (o .makes) 0) (k .after) (may-word (guestOf m v) (o .makes) 0 may) .seated);
-          owners = λ f h. sym (held-elsewhere (frameThen (o .makes)) v g (own s f) (λ b q. rw (i .seat v b g f h q .2) at none));
+          sound = rw (k .word, width-is (i .sized)) (granule-put i v g hv below none (wordWith (o .makes) 0) (k .after) (may-word (guestOf m v) (o .makes) 0 may) .sound);
+          owners = λ f h. sym (held-elsewhere (frameThen (o .makes)) v g (own s f) (λ b q. rw (i .says v b g f h q .2) at none));
           same = λ q f h. refl;
         }
 
@@ -116,18 +116,18 @@ module _ (F W : ℕ) (m : Monitor) (o : Operation) (v : ℕ) (hv : v < 8) (may :
         let t = state (set frames f (frameBits d)) (set map (wordIndex (length map) v g) (mapBits w)) m in
         record {
           at = omega arith;
-          seated = rw (width-is (i .sized)) (put .seated);
+          sound = rw (width-is (i .sized)) (put .sound);
           owners = λ j h.
               at-or-not (λ x. x < F → own t x ≡ heldThen (among v g 1) made (own s x)) f j
               (λ l. put .frame ∙ sym (ap (heldThen (among v g 1) made) (k .owner) ∙ held-here made v (k .sharing) g))
               (λ n l.
               put .frames j n
-              ∙ sym (held-elsewhere made v g (own s j) (λ b q. n (one-frame (look W s v g) (k .sharing) b f j says (i .seat v b g j l q .2)))))
+              ∙ sym (held-elsewhere made v g (own s j) (λ b q. n (one-frame (look W s v g) (k .sharing) b f j says (i .says v b g j l q .2)))))
               h;
           same = λ q. never (sym q ∙ framed o (is-frame .0) f (rw (← (is-frame .1)) e));
         }
 
-  one-reached : (map frames : List ℕ) (g : ℕ) → Seated F W (state frames map m) → (t : Place) → tableStep o v (place map frames g) ≡ took t
+  one-reached : (map frames : List ℕ) (g : ℕ) → WordsSound F W (state frames map m) → (t : Place) → tableStep o v (place map frames g) ≡ took t
       → ReachedAt F W m o v (state frames map m) g 1 t
   one-reached map frames g i t e =
       step-wrote o v map frames g (ReachedAt F W m o v (state frames map m) g 1) (λ w h q. bare-reached map frames g i h w q)
@@ -138,7 +138,7 @@ module _ (F W : ℕ) (m : Monitor) (o : Operation) (v : ℕ) (hv : v < 8) (may :
         → ReachedAt F W m o v (state frames map m) next 1 t → ReachedAt F W m o v s g (suc n) t
     further n map frames next r (place map′ frames′ next′) q = record {
       at = omega (arith, r .at, q .at);
-      seated = q .seated;
+      sound = q .sound;
       owners = λ f h.
           q .owners f h
           ∙ rw (r .owners f h, r .at) (held-next (o .makes) v g n (own s f));
@@ -146,12 +146,12 @@ module _ (F W : ℕ) (m : Monitor) (o : Operation) (v : ℕ) (hv : v < 8) (may :
     }
 
     onward : (n : ℕ) (p t : Place) → ReachedAt F W m o v s g n p → tableStep o v p ≡ took t → ReachedAt F W m o v s g (suc n) t
-    onward n (place map frames next) t r e = further n map frames next r t (one-reached map frames next (r .seated) t e)
+    onward n (place map frames next) t r e = further n map frames next r t (one-reached map frames next (r .sound) t e)
 
   -- n steps at the most
-  pub range-reached : (map frames : List ℕ) (g n : ℕ) → Seated F W (state frames map m)
+  pub range-reached : (map frames : List ℕ) (g n : ℕ) → WordsSound F W (state frames map m)
       → Holds (ReachedAt F W m o v (state frames map m) g) 0 (run (tableStep o v) n (place map frames g))
   range-reached map frames g n i =
       let s = state frames map m in
       kept (ReachedAt F W m o v s g) (tableStep o v) (onward s g) n 0 (place map frames g)
-      (record { at = omega arith; seated = i; owners = λ f h. sym (held-none v g (frameThen (o .makes)) (own s f)); same = λ e f h. refl })
+      (record { at = omega arith; sound = i; owners = λ f h. sym (held-none v g (frameThen (o .makes)) (own s f)); same = λ e f h. refl })

@@ -35,15 +35,21 @@ new-sound = record { dead = λ e. never (sym e); limits = λ r. on r; enrolled =
     on VendorHyp = refl
     on Unknown = refl
 
+-- bitmaps that stay are within their limits
+limits-kept : (g h : Guest) → h .std ≡ g .std → h .«std_hyp» ≡ g .«std_hyp» → h .«vendor_hyp» ≡ g .«vendor_hyp» → (r : FirmwareRegister)
+    → withinLimit r (bitmapOf r g) ≡ true → withinLimit r (bitmapOf r h) ≡ true
+limits-kept g h a b c Std k = rw a k
+limits-kept g h a b c StdHyp k = rw b k
+limits-kept g h a b c VendorHyp k = rw c k
+limits-kept g h a b c Unknown k = k
+
 -- a live guest with other flags or bitmaps
 pub run-sound : (g : Guest) → SoundRecord g → g .live ≡ true → SoundRecord (markRun g)
-run-sound g k live = record { dead = λ e. never (sym e ∙ live); limits = λ r. on r (k .limits r); enrolled = λ e. refl }
-  where
-    on : (r : FirmwareRegister) → withinLimit r (bitmapOf r g) ≡ true → withinLimit r (bitmapOf r (markRun g)) ≡ true
-    on Std h = h
-    on StdHyp h = h
-    on VendorHyp h = h
-    on Unknown h = h
+run-sound g k live = record {
+  dead = λ e. never (sym e ∙ live);
+  limits = λ r. limits-kept g (markRun g) refl refl refl r (k .limits r);
+  enrolled = λ e. refl;
+}
 
 pub run-holds : (g : Guest) (k : GranuleState) → mayHold g k ≡ true → mayHold (markRun g) k ≡ true
 run-holds g granule-state.Vacant h = h
@@ -98,13 +104,11 @@ bitmap-sound r x g k live h =
     }
 
 pub enroll-sound : (g : Guest) → SoundRecord g → g .live ≡ true → g .run ≡ true → SoundRecord (enroll g)
-enroll-sound g k live has-run = record { dead = λ e. never (sym e ∙ live); limits = λ r. on r (k .limits r); enrolled = λ e. has-run }
-  where
-    on : (r : FirmwareRegister) → withinLimit r (bitmapOf r g) ≡ true → withinLimit r (bitmapOf r (enroll g)) ≡ true
-    on Std h = h
-    on StdHyp h = h
-    on VendorHyp h = h
-    on Unknown h = h
+enroll-sound g k live has-run = record {
+  dead = λ e. never (sym e ∙ live);
+  limits = λ r. limits-kept g (enroll g) refl refl refl r (k .limits r);
+  enrolled = λ e. has-run;
+}
 
 pub enroll-holds : (g : Guest) (k : GranuleState) → mayHold g k ≡ true → mayHold (enroll g) k ≡ true
 enroll-holds g granule-state.Vacant h = h

@@ -10,7 +10,7 @@ use Rattle.records.specs.declared.guest.Guest.{Guest}
 use Rattle.records.proofs.MonitorLaws.{guest-put, guest-other, guests-kept}
 use Rattle.history.specs.Sound.{SoundRecord, mayHold}
 use Rattle.history.proofs.Seen.{own, look, Sized, at-or-not, never}
-use Rattle.history.proofs.Seats.{stateBy, Seated, changed-seated}
+use Rattle.history.proofs.WordsSound.{stateBy, WordsSound, changed-sound}
 use Rattle.history.proofs.Tied.{here}
 
 -- the records with one put in
@@ -23,14 +23,14 @@ guests-then P {s = s} z v r here there u h =
     h
 
 -- a record alone: what the row holds is the new guest's to hold
-module _ {F W : ℕ} {s : State} (i : Seated F W s) (v : ℕ) (r : Guest) (sound : SoundRecord r)
+module _ {F W : ℕ} {s : State} (i : WordsSound F W s) (v : ℕ) (r : Guest) (sound : SoundRecord r)
     (may : (g : ℕ) → g < W → mayHold (guestOf (s .monitor) v) (stateBy (look W s v g)) ≡ true → mayHold r (stateBy (look W s v g)) ≡ true) where
   abbrev recorded : State
   recorded = state (s .frames) (s .map) (withGuest (s .monitor) v r)
 
-  pub recorded-seated : Seated F W recorded
+  pub recorded-sound : WordsSound F W recorded
   unfolding own look
-  recorded-seated = changed-seated i (λ k. false) (λ u h. false) (record {
+  recorded-sound = changed-sound i (λ k. false) (λ u h. false) (record {
     sized = record {
       bounds = i .sized .bounds;
       frame-words = i .sized .frame-words;

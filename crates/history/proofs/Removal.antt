@@ -24,8 +24,8 @@ use Rattle.records.specs.State.{State, state}
 use Rattle.records.proofs.MonitorLaws.{guest-other, guests-kept}
 use Rattle.rows.specs.WholeRow.{vacantRow, framesFreed}
 use Rattle.history.specs.Sound.{SoundRecord}
-use Rattle.history.proofs.Seen.{own, look, width-is}
-use Rattle.history.proofs.Seats.{Seated, changed-seated}
+use Rattle.history.proofs.Seen.{own, look, width-is, never}
+use Rattle.history.proofs.WordsSound.{WordsSound, changed-sound}
 use Rattle.history.proofs.RecordMoves.{guests-then}
 use Rattle.history.proofs.RecordLaws.{zero-sound}
 use Rattle.history.proofs.FreedRow.{put, put-length, put-before, put-within, put-after, freed-length, freed-named, freed-other}
@@ -39,16 +39,15 @@ ownedBy v (frame-word.Owned u b g) = eqb u v
 ownedBy v frame-word.Damaged = false
 
 owner-is : (v : ℕ) (d : FrameWord) → ownedBy v d ≡ true → (b : Bool) × (g : ℕ) × (d ≡ frame-word.Owned v b g)
-owner-is v frame-word.Host h = absurd (let z : _≡_ {A = ℕ} 0 1 = cc in omega arith)
-owner-is v frame-word.Waiting h = absurd (let z : _≡_ {A = ℕ} 0 1 = cc in omega arith)
+owner-is v frame-word.Host h = never h
+owner-is v frame-word.Waiting h = never h
 owner-is v (frame-word.Owned u b g) h = (b, g, rw (eqb-true u v h))
-owner-is v frame-word.Damaged h = absurd (let z : _≡_ {A = ℕ} 0 1 = cc in omega arith)
+owner-is v frame-word.Damaged h = never h
 
 owner-not : (v : ℕ) (d : FrameWord) → ownedBy v d ≡ false → (b : Bool) (g : ℕ) → d ≢ frame-word.Owned v b g
 owner-not v d h b g e =
     let t : ownedBy v d ≡ true = rw e (eq-eqb v v refl) in
-    let z : _≡_ {A = ℕ} 0 1 = cc in
-    omega arith
+    never (sym h ∙ t)
 
 owner-held : (v : ℕ) (d : FrameWord) → cond (ownedBy v d) frame-word.Waiting d ≡ heldThen (λ u h. eqb u v) (λ u h. frame-word.Waiting) d
 owner-held v frame-word.Host = refl
@@ -56,7 +55,7 @@ owner-held v frame-word.Waiting = refl
 owner-held v (frame-word.Owned u b g) = refl
 owner-held v frame-word.Damaged = refl
 
-module _ {F W : ℕ} {s : State} (i : Seated F W s) (v : ℕ) (hv : v < 8) where
+module _ {F W : ℕ} {s : State} (i : WordsSound F W s) (v : ℕ) (hv : v < 8) where
   abbrev row : List ℕ
   row = rowOf (s .map) v
 
@@ -74,13 +73,13 @@ module _ {F W : ℕ} {s : State} (i : Seated F W s) (v : ℕ) (hv : v < 8) where
   unfolding own
   own-gone f h true e =
       let p = owner-is v (own s f) e in
-      let n = i .seat v (p .0) (p .1) f h (p .2) in
+      let n = i .says v (p .0) (p .1) f h (p .2) in
       rw (freed-named row (s .frames) f (p .1) (p .0) (omega (arith, i .sized .frame-words)) (omega (arith, width)) (says-row (p .1) (n .1) ∙ n .2))
       (frame-decode-encode frame-word.Waiting tt)
   own-gone f h false e =
       ap frameWordOf
       (freed-other row (s .frames) f (λ g b l q.
-      owner-not v (own s f) e b g (i .back v b g f hv (omega (arith, width)) (sym (says-row g (omega (arith, width))) ∙ q) .1)))
+      owner-not v (own s f) e b g (i .says-back v b g f hv (omega (arith, width)) (sym (says-row g (omega (arith, width))) ∙ q) .1)))
 
   pub owners-gone : (f : ℕ) → f < F → own gone f ≡ heldThen (λ u h. eqb u v) (λ u h. frame-word.Waiting) (own s f)
   owners-gone f h = own-gone f h (ownedBy v (own s f)) refl ∙ owner-held v (own s f)
@@ -124,8 +123,8 @@ module _ {F W : ℕ} {s : State} (i : Seated F W s) (v : ℕ) (hv : v < 8) where
   frame-gone : (f : ℕ) → f < F → ownedBy v (own s f) ≡ true → own gone f ≡ frame-word.Waiting
   frame-gone f h e = own-gone f h true e
 
-  pub gone-seated : Seated F W gone
-  gone-seated = changed-seated i (λ f. ownedBy v (own s f)) (λ u g. eqb u v) (record {
+  pub gone-sound : WordsSound F W gone
+  gone-sound = changed-sound i (λ f. ownedBy v (own s f)) (λ u g. eqb u v) (record {
     sized = record {
       bounds = i .sized .bounds;
       frame-words = freed-length row (s .frames) ∙ i .sized .frame-words;
@@ -137,7 +136,7 @@ module _ {F W : ℕ} {s : State} (i : Seated F W s) (v : ℕ) (hv : v < 8) where
     granules-kept = λ u g l h e. look-there u g h (eqb-false u v e);
     holds-kept = λ u g l h e r. rw (guest-other (s .monitor) v u zeroGuest (eqb-false u v e)) r;
     frames-within = λ u b g f h e o. rw o at e;
-    granules-within = λ u b g f l h e o. rw (i .back u b g f l h o .1) e;
+    granules-within = λ u b g f l h e o. rw (i .says-back u b g f l h o .1) e;
     frames-sound = λ f h e q. let y : frame-word.Waiting ≡ frame-word.Damaged = sym (frame-gone f h e) ∙ q in let z : _≡_ {A = ℕ} 0 1 = cc in omega arith;
     frames-named = λ u b g f h e o. let y : frame-word.Waiting ≡ frame-word.Owned u b g = sym (frame-gone f h e) ∙ o in let z : _≡_ {A = ℕ} 0 1 = cc in absurd (omega arith);
     granules-named = λ u b g f l h e o. absurd (unnamed u b g f h e o);

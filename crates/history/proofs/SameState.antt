@@ -1,7 +1,6 @@
 -- Two sound states of which the same is seen are one; and a word or record put back is as if it had not been changed.
 use mathlib.Core.Path.{_≡_, sym, ap, _∙_}
 use mathlib.Core.Logic.{_≢_}
-use mathlib.Core.Bool.{false}
 use Prim.Native.Nat.{ℕ, zero, suc, _+_, _*_, _-_, _<_}
 use native.Mathlib.Decide.{decLt}
 use native.Mathlib.Omega.{arith}
@@ -20,9 +19,8 @@ use Rattle.records.specs.State.{State, state}
 use Rattle.records.specs.declared.guest.Guest.{Guest}
 use Rattle.records.specs.declared.monitor.Monitor.{Monitor}
 use Rattle.records.proofs.MonitorLaws.{put-again}
-use Rattle.history.specs.Sound.{mayHold}
-use Rattle.history.proofs.Seen.{own, look}
-use Rattle.history.proofs.Seats.{stateBy, Seated}
+use Rattle.history.proofs.Seen.{own, look, never}
+use Rattle.history.proofs.WordsSound.{WordsSound}
 
 -- every word of n rows is that of a granule of a slot
 pub record Placed (n W i : ℕ) : Type 0 where
@@ -42,13 +40,10 @@ placed (suc n) W i h = on (decLt i (n * W)) (λ l. placed n W i l)
         record { slot = p .slot; granule = p .granule; few = omega (arith, p .few); below = p .below; index = p .index }
     on (no l) more = record { slot = n; granule = i - n * W; few = omega arith; below = omega arith; index = omega arith }
 
-module _ {F W : ℕ} {s : State} (i : Seated F W s) where
+module _ {F W : ℕ} {s : State} (i : WordsSound F W s) where
   look-whole : (v g : ℕ) → v < 8 → g < W → look W s v g ≢ map-word.Damaged
   look-whole v g h l e =
-      let held = i .holds v g h l in
-      let no : mayHold (guestOf (s .monitor) v) (stateBy (look W s v g)) ≡ false = rw e in
-      let z : _≡_ {A = ℕ} 0 1 = cc in
-      omega arith
+      never (rw e at (i .holds v g h l))
 
   frame-bits : (f : ℕ) → f < F → getD (s .frames) f 0 ≡ frameBits (own s f)
   unfolding own
@@ -80,7 +75,7 @@ guest-same m v g h e =
 pub guest-back : (m : Monitor) (v : ℕ) (r g : Guest) → v < 8 → guestOf m v ≡ g → withGuest (withGuest m v r) v g ≡ m
 guest-back m v r g h e = put-again m v r g ∙ guest-same m v g h e
 
-module _ {F W : ℕ} {s t : State} (i : Seated F W s) (j : Seated F W t) where
+module _ {F W : ℕ} {s t : State} (i : WordsSound F W s) (j : WordsSound F W t) where
   pub same-state : ((f : ℕ) → f < F → own s f ≡ own t f) → ((v g : ℕ) → v < 8 → g < W → look W s v g ≡ look W t v g)
       → ((v : ℕ) → v < 8 → guestOf (s .monitor) v ≡ guestOf (t .monitor) v) → s ≡ t
   same-state owners granules guests =

@@ -34,11 +34,11 @@ use Rattle.calls.specs.declared.call.Call.the-variants.{Create, Run, Remove, Sh
 use Rattle.history.specs.Sound.{mayHold}
 use Rattle.history.specs.Log as log
 use Rattle.history.proofs.Seen.{own, look, lengths-hold, width-is}
-use Rattle.history.proofs.Seats.{stateBy, Seated}
+use Rattle.history.proofs.WordsSound.{stateBy, WordsSound}
 use Rattle.history.proofs.SoundLaws.{pair-seen}
-use Rattle.history.proofs.RecordMoves.{recorded-seated}
+use Rattle.history.proofs.RecordMoves.{recorded-sound}
 use Rattle.history.proofs.RecordLaws.{new-sound, run-sound, run-holds, bitmap-flags, flags-hold, bitmap-sound}
-use Rattle.history.proofs.Removal.{owners-gone, gone-seated}
+use Rattle.history.proofs.Removal.{owners-gone, gone-sound}
 use Rattle.history.proofs.Held.{heldThen, owner-changed}
 use Rattle.history.proofs.Kept.{usual, Kept, sure, tests-kept}
 use Rattle.history.proofs.Looks.{granule-undamaged}
@@ -81,7 +81,7 @@ unfolding numbersOf
 shown-usual true row = refl
 shown-usual false row = refl
 
-module _ {F W : ℕ} {s : State} (i : Seated F W s) where
+module _ {F W : ℕ} {s : State} (i : WordsSound F W s) where
   -- the words of a row
   row-seen : (v g : ℕ) → v < 8 → g < length (rowOf (s .map) v) → (g < W) × (mapWordOf (getD (rowOf (s .map) v) g 0) ≡ look W s v g)
   unfolding look
@@ -119,7 +119,7 @@ module _ {F W : ℕ} {s : State} (i : Seated F W s) where
       (λ p.
       let h = ltb-true v 8 (p .1 .1 .0) in
       record {
-        seated = recorded-seated i v newGuest new-sound (λ g l q. rw (dead-row v g h l (dead h)));
+        sound = recorded-sound i v newGuest new-sound (λ g l q. rw (dead-row v g h l (dead h)));
         logged = λ k l x q. q;
         unhurt = refl;
       })
@@ -130,7 +130,7 @@ module _ {F W : ℕ} {s : State} (i : Seated F W s) where
       let g = guestOf (s .monitor) v in
       tests-kept i (Run v) (runTests g) (ran v s) (λ q. (refl, refl), λ a. tt)
       (λ p. record {
-        seated = recorded-seated i v (markRun g) (run-sound g (i .records v (live-slot (s .monitor) v (p .0))) (p .0)) (λ h l q. run-holds g (stateBy (look W s v h)) q);
+        sound = recorded-sound i v (markRun g) (run-sound g (i .records v (live-slot (s .monitor) v (p .0))) (p .0)) (λ h l q. run-holds g (stateBy (look W s v h)) q);
         logged = λ k l x q. q;
         unhurt = refl;
       })
@@ -143,7 +143,7 @@ module _ {F W : ℕ} {s : State} (i : Seated F W s) where
       (λ p.
       let slot = live-slot (s .monitor) v (p .1 .0) in
       record {
-        seated = gone-seated i v slot;
+        sound = gone-sound i v slot;
         logged = λ k l x q.
             owners-gone i v slot k l ∙ ap (heldThen (λ u h. eqb u v) (λ u h. frame-word.Waiting)) q
             ∙ sym (owner-changed (λ u h. eqb u v) (λ u h. log.ownerRemoved) x);
@@ -155,7 +155,7 @@ module _ {F W : ℕ} {s : State} (i : Seated F W s) where
   keep-read v n =
       tests-kept i (RegisterRead v n) (readTests (guestOf (s .monitor) v) (registerNumbered n)) (bitmapTold v n s)
       (λ q. (refl, refl), λ a. (λ q. (refl, refl), λ b. tt))
-      (λ p. record { seated = i; logged = λ k l x q. q; unhurt = refl })
+      (λ p. record { sound = i; logged = λ k l x q. q; unhurt = refl })
 
   pub keep-write : (v n y : ℕ) → Kept F W s (RegisterWrite v n y) (registerWriteOf v n y s)
   unfolding registerWriteOf numbersOf own
@@ -165,8 +165,8 @@ module _ {F W : ℕ} {s : State} (i : Seated F W s) where
       tests-kept i (RegisterWrite v n y) (writeTests g r y) (bitmapWritten v n y s)
       (λ q. (refl, refl), λ a. (λ q. (refl, refl), λ b. (λ q. (refl, refl), λ c. (λ q. (refl, refl), λ d. tt))))
       (λ p. record {
-        seated =
-            recorded-seated i v (withBitmap r y g) (bitmap-sound r y g (i .records v (live-slot (s .monitor) v (p .0))) (p .0) (p .1 .1 .0))
+        sound =
+            recorded-sound i v (withBitmap r y g) (bitmap-sound r y g (i .records v (live-slot (s .monitor) v (p .0))) (p .0) (p .1 .1 .0))
             (λ h l q. flags-hold g (withBitmap r y g) (bitmap-flags r y g) (stateBy (look W s v h)) q);
         logged = λ k l x q. q;
         unhurt = refl;
@@ -180,4 +180,4 @@ module _ {F W : ℕ} {s : State} (i : Seated F W s) where
       rw (both-true (framesHold (length (s .frames))) (mapHolds n) (lengths-hold (i .sized)) .1) (shown-usual (guestOf (s .monitor) v .live) (rowOf (s .map) v))
 
   pub keep-show : (v : ℕ) → Kept F W s (Show v) (answered s (showOf v (s .monitor) (s .map) .answer))
-  keep-show v = record { seated = i; logged = λ k l x q. q; unhurt = shown-unhurt v }
+  keep-show v = record { sound = i; logged = λ k l x q. q; unhurt = shown-unhurt v }

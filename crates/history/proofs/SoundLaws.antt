@@ -23,8 +23,8 @@ use Rattle.records.specs.Monitor.{guestOf}
 use Rattle.records.specs.State.{State}
 use Rattle.records.specs.declared.guest.Guest.{Guest}
 use Rattle.history.specs.Sound.{mayHold, Sound}
-use Rattle.history.proofs.Seen.{own, look, Sized, lengths-hold, width-is}
-use Rattle.history.proofs.Seats.{stateBy, Says, SaysBack, Seated}
+use Rattle.history.proofs.Seen.{own, look, Sized, lengths-hold, width-is, never}
+use Rattle.history.proofs.WordsSound.{stateBy, Says, SaysBack, WordsSound}
 
 module _ {F W : ℕ} {s : State} (z : Sized F W s) where
   -- a granule that is there is in the state that its word gives it, if the frame that it says says it back
@@ -45,11 +45,11 @@ module _ {F W : ℕ} {s : State} (z : Sized F W s) where
   named-granule-back v b g f p = rw (width-is z, lt-ltb g W (p .1), p .2, beq-self b, eq-eqb f f refl)
 
 -- what is found of a granule or a frame, in states that agree
-module _ {F W : ℕ} {s : State} (i : Seated F W s) where
+module _ {F W : ℕ} {s : State} (i : WordsSound F W s) where
   granule-by : (v g : ℕ) → v < 8 → g < W → (d : MapWord) → look W s v g ≡ d → granuleState (s .frames) v g d ≡ stateBy d
   unfolding granuleState
   granule-by v g h l map-word.Vacant e = refl
-  granule-by v g h l (map-word.Frame b f) e = named-frame-back (i .sized) v b g f (i .back v b g f h l e)
+  granule-by v g h l (map-word.Frame b f) e = named-frame-back (i .sized) v b g f (i .says-back v b g f h l e)
   granule-by v g h l map-word.Guarded e = refl
   granule-by v g h l map-word.Damaged e = refl
 
@@ -66,12 +66,12 @@ frameBy frame-word.Waiting = frame-state.Waiting
 frameBy (frame-word.Owned v b g) = frame-state.Owned v b g
 frameBy frame-word.Damaged = frame-state.Damaged
 
-module _ {F W : ℕ} {s : State} (i : Seated F W s) where
+module _ {F W : ℕ} {s : State} (i : WordsSound F W s) where
   frame-by : (f : ℕ) → f < F → (d : FrameWord) → own s f ≡ d → frameState (s .map) f d ≡ frameBy d
   unfolding frameState
   frame-by f h frame-word.Host e = refl
   frame-by f h frame-word.Waiting e = refl
-  frame-by f h (frame-word.Owned v b g) e = named-granule-back (i .sized) v b g f (i .seat v b g f h e)
+  frame-by f h (frame-word.Owned v b g) e = named-granule-back (i .sized) v b g f (i .says v b g f h e)
   frame-by f h frame-word.Damaged e = refl
 
   pub frame-found : (f : ℕ) → f < F → pairOf (s .frames) (s .map) f ≡ frameBy (own s f)
@@ -86,8 +86,8 @@ module _ {F W : ℕ} {s : State} (i : Seated F W s) where
   pub frame-sound : (f : ℕ) → f < F → frameUndamaged (pairOf (s .frames) (s .map) f) ≡ true
   frame-sound f h = rw (frame-found f h) (undamaged-by (own s f) (i .whole f h))
 
-  pub seated-sound : Sound s
-  seated-sound = record {
+  pub words-sound : Sound s
+  words-sound = record {
     lengths = lengths-hold (i .sized);
     slots = i .sized .guests;
     records = i .records;
@@ -99,12 +99,12 @@ module _ {F W : ℕ} {s : State} (i : Seated F W s) where
 owned-kept : (x : Bool) (v : ℕ) (b : Bool) (g : ℕ) → frameUndamaged (cond x (frame-state.Owned v b g) frame-state.Damaged) ≡ true
     → frame-state.Owned v b g ≡ cond x (frame-state.Owned v b g) frame-state.Damaged
 owned-kept true v b g h = refl
-owned-kept false v b g h = let z : _≡_ {A = ℕ} 0 1 = cc in absurd (omega arith)
+owned-kept false v b g h = never h
 
 frame-held : (x : Bool) (guest : Guest) (b : Bool) (f : ℕ) → mayHold guest (cond x (granule-state.Frame b f) granule-state.Damaged) ≡ true
     → granule-state.Frame b f ≡ cond x (granule-state.Frame b f) granule-state.Damaged
 frame-held true guest b f h = refl
-frame-held false guest b f h = let z : _≡_ {A = ℕ} 0 1 = cc in absurd (omega arith)
+frame-held false guest b f h = never h
 
 eight-rows : (n : ℕ) → mapHolds n ≡ true → n ≡ 8 * widthOf n
 unfolding mapHolds
@@ -127,13 +127,11 @@ module _ {s : State} (k : Sound s) where
   unfolding frameState
   frame-whole f h d e q =
       let u : frameUndamaged (frameState (s .map) f (own s f)) ≡ true = rw (← (frame-seen sized f h)) (k .frames f h) in
-      let n : false ≡ true = rw (e, q) at u in
-      let y : _≡_ {A = ℕ} 0 1 = cc in
-      omega arith
+      never (rw (e, q) at u)
 
-  seat : (v : ℕ) (b : Bool) (g f : ℕ) → f < F → own s f ≡ frame-word.Owned v b g → Says W s v b g f
+  says : (v : ℕ) (b : Bool) (g f : ℕ) → f < F → own s f ≡ frame-word.Owned v b g → Says W s v b g f
   unfolding own look frameState
-  seat v b g f h e =
+  says v b g f h e =
       let u : frameUndamaged (frameState (s .map) f (own s f)) ≡ true = rw (← (frame-seen sized f h)) (k .frames f h) in
       let o = owned-kept (granuleNamesBack (s .map) v b g f) v b g (rw e at u) in
       let n = frame-names (s .map) f v g b o in
@@ -143,9 +141,9 @@ module _ {s : State} (k : Sound s) where
   held : (v g : ℕ) → v < 8 → g < W → (d : MapWord) → look W s v g ≡ d → mayHold (guestOf (s .monitor) v) (granuleState (s .frames) v g d) ≡ true
   held v g h l d e = rw (← e) (rw (← (pair-seen sized v g h l)) (k .granules v g h l))
 
-  back : (v : ℕ) (b : Bool) (g f : ℕ) → v < 8 → g < W → look W s v g ≡ map-word.Frame b f → SaysBack F s v b g f
+  says-back : (v : ℕ) (b : Bool) (g f : ℕ) → v < 8 → g < W → look W s v g ≡ map-word.Frame b f → SaysBack F s v b g f
   unfolding own granuleState
-  back v b g f h l e =
+  says-back v b g f h l e =
       granule-names (s .frames) v g b f
       (frame-held (frameNamesBack (s .frames) v b g f) (guestOf (s .monitor) v) b f (held v g h l (map-word.Frame b f) e))
 
@@ -158,12 +156,12 @@ module _ {s : State} (k : Sound s) where
   holds-by v g h l map-word.Guarded e = held v g h l map-word.Guarded e
   holds-by v g h l map-word.Damaged e = held v g h l map-word.Damaged e
 
-  pub sound-seated : Seated F W s
-  sound-seated = record {
+  pub sound-words : WordsSound F W s
+  sound-words = record {
     sized = sized;
     records = k .records;
     whole = λ f h. frame-whole f h (own s f) refl;
-    seat = seat;
-    back = back;
+    says = says;
+    says-back = says-back;
     holds = λ v g h l. holds-by v g h l (look W s v g) refl;
   }

@@ -32,12 +32,12 @@ surely-here v g u h p q = rw (eq-eqb u v p, eq-eqb h g q)
 
 -- the word of frame f and the word of granule g of slot v name each other, or none
 pub record Tied (v g f : ℕ) (d : FrameWord) (e : MapWord) : Type 0 where
-  pub sound : d ≢ frame-word.Damaged
+  pub whole : d ≢ frame-word.Damaged
   pub to : (u : ℕ) (b : Bool) (h : ℕ) → d ≡ frame-word.Owned u b h → (u ≡ v) × (h ≡ g) × (e ≡ map-word.Frame b f)
-  pub fro : (b : Bool) (k : ℕ) → e ≡ map-word.Frame b k → (k ≡ f) × (d ≡ frame-word.Owned v b g)
+  pub from : (b : Bool) (k : ℕ) → e ≡ map-word.Frame b k → (k ≡ f) × (d ≡ frame-word.Owned v b g)
 
 pub tied-named : (v g f : ℕ) (b : Bool) → Tied v g f (frame-word.Owned v b g) (map-word.Frame b f)
-tied-named v g f b = record { sound = λ e. let z : _≡_ {A = ℕ} 0 1 = cc in omega arith; to = λ u c h e. (cc, cc, cc); fro = λ c k e. (cc, cc) }
+tied-named v g f b = record { whole = λ e. let z : _≡_ {A = ℕ} 0 1 = cc in omega arith; to = λ u c h e. (cc, cc, cc); from = λ c k e. (cc, cc) }
 
 -- neither names another
 abbrev pub FrameFree : FrameWord → Type 0
@@ -63,9 +63,9 @@ none-named e h b f q = rw q at h
 
 pub tied-apart : (v g f : ℕ) (d : FrameWord) (e : MapWord) → FrameFree d → NamesNone e → Tied v g f d e
 tied-apart v g f d e h n = record {
-  sound = free-sound d h;
+  whole = free-sound d h;
   to = λ u b k q. absurd (free-owned d h u b k q);
-  fro = λ b k q. absurd (none-named e n b k q);
+  from = λ b k q. absurd (none-named e n b k q);
 }
 
 pub free-fits : (d : FrameWord) → FrameFree d → FrameFits d

@@ -23,7 +23,7 @@ use Rattle.granules.specs.declared.kinds.Operation.{Operation}
 use Rattle.granules.specs.declared.kinds.Change.{Change}
 use Rattle.granules.specs.declared.kinds.Change.the-variants.{Damaged, Refused, Bare, WithFrame}
 use Rattle.history.proofs.Seen.{never, look, width-is}
-use Rattle.history.proofs.Seats.{Seated}
+use Rattle.history.proofs.WordsSound.{WordsSound}
 use Rattle.history.proofs.SoundLaws.{pair-seen}
 use Rattle.history.proofs.Looks.{granule-undamaged, below-width}
 
@@ -68,7 +68,7 @@ first-refused step (suc n) p q r e = on (step p) refl e
     on (took t) h x = absurd (more (run step n t) x)
     on (refuses x) h y = h ∙ cc
 
-module _ {F W : ℕ} {s : State} (i : Seated F W s) (v : ℕ) (slot : v < 8) where
+module _ {F W : ℕ} {s : State} (i : WordsSound F W s) (v : ℕ) (slot : v < 8) where
   pub step-undamaged : (o : Operation) (g : ℕ) → tableStep o v (place (s .map) (s .frames) g) ≢ refuses isDamaged
   unfolding stepFrom look
   step-undamaged o g e =

@@ -24,15 +24,15 @@ use Rattle.host_guests.specs.Calls.{freeFrom, freeSlot}
 use Rattle.host_removal.specs.Calls.{removed}
 use Rattle.calls.specs.declared.call.Call.the-variants.{Create, Donate, Remove}
 use Rattle.history.proofs.Seen.{own, look, width-is, at-or-not}
-use Rattle.history.proofs.Seats.{Seated}
+use Rattle.history.proofs.WordsSound.{WordsSound}
 use Rattle.history.proofs.Tied.{tied-named, tied-apart, FrameFree}
 use Rattle.history.proofs.Moves.{FramePut, GranulePut, pair-put, frame-put}
-use Rattle.history.proofs.RecordMoves.{recorded-seated}
+use Rattle.history.proofs.RecordMoves.{recorded-sound}
 use Rattle.history.proofs.RecordLaws.{new-sound}
-use Rattle.history.proofs.Removal.{owners-gone, look-gone, look-there, gone-seated}
+use Rattle.history.proofs.Removal.{owners-gone, look-gone, look-there, gone-sound}
 use Rattle.history.proofs.Held.{heldThen}
 use Rattle.history.proofs.SlotCalls.{dead-vacant}
-use Rattle.history.proofs.CallsKept.{fresh-own, fresh-look, fresh-seated}
+use Rattle.history.proofs.CallsKept.{fresh-own, fresh-look, fresh-sound}
 use Rattle.history.proofs.SameState.{guest-back, same-state}
 use Rattle.history.proofs.Does.{does-create, does-donate, does-remove}
 use Rattle.history.proofs.Got.{Got, got-next, Undone, frames-got}
@@ -59,18 +59,18 @@ host-word (frame-word.Owned v b g) h n = absurd h
 host-word frame-word.Damaged h n = absurd h
 
 module _ (F W : ℕ) where
-  dead-vacant-row : (s : State) → Seated F W s → AllDead s → (v g : ℕ) → v < 8 → g < W → look W s v g ≡ map-word.Vacant
+  dead-vacant-row : (s : State) → WordsSound F W s → AllDead s → (v g : ℕ) → v < 8 → g < W → look W s v g ≡ map-word.Vacant
   dead-vacant-row s i dead v g h l = dead-vacant (look W s v g) (rw (dead v h) at (i .holds v g h l))
 
   -- a frame of such a state is no guest's
-  dead-free : (s : State) → Seated F W s → AllDead s → (f : ℕ) → f < F → FrameFree (own s f)
+  dead-free : (s : State) → WordsSound F W s → AllDead s → (f : ℕ) → f < F → FrameFree (own s f)
   dead-free s i dead f h = on (own s f) refl
     where
       on : (d : FrameWord) → own s f ≡ d → FrameFree d
       on frame-word.Host e = tt
       on frame-word.Waiting e = tt
       on (frame-word.Owned v b g) e =
-          let p = i .seat v b g f h e in
+          let p = i .says v b g f h e in
           let q = sym (dead-vacant-row s i dead v g (p .0) (p .1)) ∙ p .2 in
           let z : _≡_ {A = ℕ} 0 1 = cc in
           omega arith
@@ -86,7 +86,7 @@ module _ (F W : ℕ) where
   unfolding freeFrom
   first-free s dead = rw (dead 0 (omega arith))
 
-  module _ (n : ℕ) (s : State) (i : Seated F W s) (dead : AllDead s) (h : n < F) (wide : 0 < W) (e : own s n ≡ frame-word.Waiting) where
+  module _ (n : ℕ) (s : State) (i : WordsSound F W s) (dead : AllDead s) (h : n < F) (wide : 0 < W) (e : own s n ≡ frame-word.Waiting) where
     -- the frame is the host's; a guest in slot 0; the frame is donated to its granule 0
     abbrev unclaimed : State
     unclaimed = state (set (s .frames) n (frameBits frame-word.Host)) (s .map) (s .monitor)
@@ -105,10 +105,10 @@ module _ (F W : ℕ) where
     unclaimed-put = frame-put i n h waits frame-word.Host tt
 
     vacant : (v g : ℕ) → v < 8 → g < W → look W unclaimed v g ≡ map-word.Vacant
-    vacant = dead-vacant-row unclaimed (unclaimed-put .seated) dead
+    vacant = dead-vacant-row unclaimed (unclaimed-put .sound) dead
 
-    joined-seated : Seated F W joined
-    joined-seated = recorded-seated (unclaimed-put .seated) 0 newGuest new-sound (λ g l q. rw (vacant 0 g (omega arith) l))
+    joined-sound : WordsSound F W joined
+    joined-sound = recorded-sound (unclaimed-put .sound) 0 newGuest new-sound (λ g l q. rw (vacant 0 g (omega arith) l))
 
     first : guestOf (joined .monitor) 0 ≡ newGuest
     first = guest-put (s .monitor) 0 newGuest (omega arith) (omega (arith, i .sized .guests))
@@ -123,7 +123,7 @@ module _ (F W : ℕ) where
 
     given-put : FramePut F W joined given n (frame-word.Owned 0 false 0) × GranulePut F W joined given 0 0 (map-word.Frame false n)
     given-put =
-        pair-put joined-seated 0 0 n (omega arith) wide h (rw (joined-host, joined-vacant) (tied-apart 0 0 n frame-word.Host map-word.Vacant tt tt))
+        pair-put joined-sound 0 0 n (omega arith) wide h (rw (joined-host, joined-vacant) (tied-apart 0 0 n frame-word.Host map-word.Vacant tt tt))
         (frame-word.Owned 0 false 0) (map-word.Frame false n) (tied-named 0 0 n false) (rw first)
 
     given-other : (f : ℕ) → f ≢ n → own given f ≡ own s f
@@ -136,8 +136,8 @@ module _ (F W : ℕ) where
 
     gone-state : removed 0 given .left ≡ s
     gone-state =
-        let j = given-put .0 .seated in
-        same-state (gone-seated j 0 (omega arith)) i
+        let j = given-put .0 .sound in
+        same-state (gone-sound j 0 (omega arith)) i
         (λ f l. owners-gone j 0 (omega arith) f l ∙ at-or-not (λ k. k < F → heldThen (λ u x. eqb u 0) (λ u x. frame-word.Waiting) (own given k) ≡ own s k) n f
         (λ m. rw (given-put .0 .frame) (sym e))
         (λ m q. rw (given-other f m) (free-held 0 (own s f) (dead-free s i dead f q)))
@@ -150,38 +150,38 @@ module _ (F W : ℕ) where
 
     clearing-undone : Got F W unclaimed → Got F W s
     clearing-undone got =
-        let j = unclaimed-put .seated in
+        let j = unclaimed-put .sound in
         let a = got-next got Create (does-create j 0 (first-free unclaimed dead) (omega arith) (ap (λ (x : Guest). x .live) (dead 0 (omega arith)))) in
-        let b = got-next {t = given} a (Donate 0 n 0) (does-donate joined-seated 0 n 0 (ap (λ (x : Guest). x .live) first) h wide joined-host joined-vacant ∙ rw (width-is (joined-seated .sized))) in
-        got-next b (Remove 0) (does-remove (given-put .0 .seated) 0 (ap (λ (x : Guest). x .live) first) ∙ gone-state)
+        let b = got-next {t = given} a (Donate 0 n 0) (does-donate joined-sound 0 n 0 (ap (λ (x : Guest). x .live) first) h wide joined-host joined-vacant ∙ rw (width-is (joined-sound .sized))) in
+        got-next b (Remove 0) (does-remove (given-put .0 .sound) 0 (ap (λ (x : Guest). x .live) first) ∙ gone-state)
 
   module _ (bounds : lengthsHold F (8 * W) ≡ true) where
     wide : 0 < W
     wide = omega (arith, width-between (8 * W) (both-true (framesHold F) (mapHolds (8 * W)) bounds .1))
 
     -- no frame waits: the tables are fresh
-    fresh-got : (s : State) → Seated F W s → AllDead s → ((f : ℕ) → f < F → isWaiting (own s f) ≡ false) → Got F W s
+    fresh-got : (s : State) → WordsSound F W s → AllDead s → ((f : ℕ) → f < F → isWaiting (own s f) ≡ false) → Got F W s
     fresh-got s i dead none = record {
       calls = [];
       leaves =
-          same-state (fresh-seated F W bounds) i
+          same-state (fresh-sound F W bounds) i
           (λ f l. fresh-own F W bounds f l ∙ sym (host-word (own s f) (dead-free s i dead f l) (none f l)))
           (λ v g l m. fresh-look F W bounds v g l m ∙ sym (dead-vacant-row s i dead v g l m))
           (λ v l. guest-fresh v ∙ sym (dead v l));
     }
 
-    undo : (s : State) → Seated F W s → AllDead s → (n : ℕ) → n < F → isWaiting (own s n) ≡ true → Undone F W AllDead isWaiting s n
+    undo : (s : State) → WordsSound F W s → AllDead s → (n : ℕ) → n < F → isWaiting (own s n) ≡ true → Undone F W AllDead isWaiting s n
     undo s i dead n h w =
         let e = waiting-is (own s n) w in
         let put = unclaimed-put n s i dead h wide e in
         record {
           before = unclaimed n s i dead h wide e;
-          seated = put .seated;
+          sound = put .sound;
           class = dead;
           frame = rw (put .frame);
           frames = put .frames;
           undone = clearing-undone n s i dead h wide e;
         }
 
-    pub dead-got : (s : State) → Seated F W s → AllDead s → Got F W s
+    pub dead-got : (s : State) → WordsSound F W s → AllDead s → Got F W s
     dead-got s i dead = frames-got F W AllDead isWaiting fresh-got undo s i dead

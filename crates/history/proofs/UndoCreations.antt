@@ -14,8 +14,8 @@ use Rattle.records.proofs.MonitorLaws.{guest-put, guest-other}
 use Rattle.host_guests.specs.Calls.{freeFrom, freeSlot}
 use Rattle.calls.specs.declared.call.Call.the-variants.{Create}
 use Rattle.history.proofs.Seen.{look, at-or-not}
-use Rattle.history.proofs.Seats.{Seated}
-use Rattle.history.proofs.RecordMoves.{recorded-seated}
+use Rattle.history.proofs.WordsSound.{WordsSound}
+use Rattle.history.proofs.RecordMoves.{recorded-sound}
 use Rattle.history.proofs.RecordLaws.{zero-sound}
 use Rattle.history.proofs.SameState.{guest-back}
 use Rattle.history.proofs.Does.{does-create}
@@ -40,7 +40,7 @@ module _ (F W : ℕ) (bounds : lengthsHold F (8 * W) ≡ true) where
     none : (v : ℕ) → v < 8 → n ≤ v → guestOf (s .monitor) v ≡ zeroGuest
     vacant : (v g : ℕ) → v < 8 → g < W → look W s v g ≡ map-word.Vacant
 
-  creations-got : (n : ℕ) → n ≤ 8 → (s : State) → Seated F W s → NewUpTo n s → Got F W s
+  creations-got : (n : ℕ) → n ≤ 8 → (s : State) → WordsSound F W s → NewUpTo n s → Got F W s
   unfolding look
   creations-got zero l s i k = dead-got F W bounds s i (λ v h. k .none v h (omega arith))
   creations-got (suc n) l s i k =
@@ -48,7 +48,7 @@ module _ (F W : ℕ) (bounds : lengthsHold F (8 * W) ≡ true) where
       let before = state (s .frames) (s .map) (withGuest m n zeroGuest) in
       let slot : n < 8 = omega arith in
       let is-new = k .new n (omega arith) in
-      let j : Seated F W before = recorded-seated i n zeroGuest zero-sound (λ g h q. rw (k .vacant n g slot h)) in
+      let j : WordsSound F W before = recorded-sound i n zeroGuest zero-sound (λ g h q. rw (k .vacant n g slot h)) in
       let here : guestOf (before .monitor) n ≡ zeroGuest = guest-put m n zeroGuest slot (omega (arith, i .sized .guests)) in
       let there : (v : ℕ) → (v ≡ n → ⊥) → guestOf (before .monitor) v ≡ guestOf m v = λ v q. guest-other m n v zeroGuest q in
       let got = creations-got n (omega arith) before j (record {
@@ -61,6 +61,6 @@ module _ (F W : ℕ) (bounds : lengthsHold F (8 * W) ≡ true) where
       ap (λ (x : Guest). x .live) (there u (λ q. omega arith) ∙ k .new u (omega arith))) in
       got-next got Create (does-create j n free slot dead ∙ rw (guest-back m n zeroGuest newGuest slot is-new))
 
-  pub new-got : (s : State) → Seated F W s → ((v : ℕ) → v < 8 → guestOf (s .monitor) v ≡ newGuest)
+  pub new-got : (s : State) → WordsSound F W s → ((v : ℕ) → v < 8 → guestOf (s .monitor) v ≡ newGuest)
       → ((v g : ℕ) → v < 8 → g < W → look W s v g ≡ map-word.Vacant) → Got F W s
   new-got s i new vacant = creations-got 8 (omega arith) s i (record { new = new; none = λ v h l. absurd (omega arith); vacant = vacant })

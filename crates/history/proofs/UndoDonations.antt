@@ -17,7 +17,7 @@ use Rattle.records.specs.declared.guest.Guest.{Guest}
 use Rattle.calls.specs.declared.call.Call.the-variants.{Donate}
 use Rattle.history.specs.Sound.{mayHold}
 use Rattle.history.proofs.Seen.{never, own, look, width-is}
-use Rattle.history.proofs.Seats.{stateBy, Says, Seated}
+use Rattle.history.proofs.WordsSound.{stateBy, Says, WordsSound}
 use Rattle.history.proofs.Tied.{tied-named, tied-apart}
 use Rattle.history.proofs.Moves.{FramePut, GranulePut, pair-put}
 use Rattle.history.proofs.SameState.{frame-back, map-back}
@@ -45,17 +45,17 @@ module _ (F W : ℕ) (bounds : lengthsHold F (8 * W) ≡ true) where
   abbrev AllNew : State → Type 0
   AllNew s = (v : ℕ) → v < 8 → guestOf (s .monitor) v ≡ newGuest
 
-  none-owned-got : (s : State) → Seated F W s → AllNew s → ((f : ℕ) → f < F → isOwned (own s f) ≡ false) → Got F W s
+  none-owned-got : (s : State) → WordsSound F W s → AllNew s → ((f : ℕ) → f < F → isOwned (own s f) ≡ false) → Got F W s
   none-owned-got s i new none =
       new-got F W bounds s i new (λ v g h l.
       new-vacant (look W s v g) (rw (new v h) at (i .holds v g h l)) (λ b f e.
-      let p = i .back v b g f h l e in
+      let p = i .says-back v b g f h l e in
       let y : isOwned (own s f) ≡ true = rw (p .1) in
       never (sym (none f (p .0)) ∙ y)))
 
-  module _ (n : ℕ) (s : State) (i : Seated F W s) (new : AllNew s) (h : n < F) (v g : ℕ) (e : own s n ≡ frame-word.Owned v false g) where
+  module _ (n : ℕ) (s : State) (i : WordsSound F W s) (new : AllNew s) (h : n < F) (v g : ℕ) (e : own s n ≡ frame-word.Owned v false g) where
     said : Says W s v false g n
-    said = i .seat v false g n h e
+    said = i .says v false g n h e
 
     live : guestOf (s .monitor) v .live ≡ true
     live = ap (λ (x : Guest). x .live) (new v (said .0))
@@ -72,21 +72,21 @@ module _ (F W : ℕ) (bounds : lengthsHold F (8 * W) ≡ true) where
     donation-undone got =
         let put = undonated-put in
         got-next got (Donate v n g)
-        (does-donate (put .0 .seated) v n g live h (said .1) (put .0 .frame) (put .1 .granule)
+        (does-donate (put .0 .sound) v n g live h (said .1) (put .0 .frame) (put .1 .granule)
         ∙ rw
-        (width-is (put .0 .seated .sized), frame-back i n (frameBits frame-word.Host) (frame-word.Owned v false g) h e, map-back i v g (mapBits map-word.Vacant) (map-word.Frame false n) (said .0) (said .1) (said .2)))
+        (width-is (put .0 .sound .sized), frame-back i n (frameBits frame-word.Host) (frame-word.Owned v false g) h e, map-back i v g (mapBits map-word.Vacant) (map-word.Frame false n) (said .0) (said .1) (said .2)))
 
-  undo : (s : State) → Seated F W s → AllNew s → (n : ℕ) → n < F → (d : FrameWord) → own s n ≡ d → isOwned d ≡ true → Undone F W AllNew isOwned s n
+  undo : (s : State) → WordsSound F W s → AllNew s → (n : ℕ) → n < F → (d : FrameWord) → own s n ≡ d → isOwned d ≡ true → Undone F W AllNew isOwned s n
   undo s i new n h frame-word.Host e w = never w
   undo s i new n h frame-word.Waiting e w = never w
   undo s i new n h (frame-word.Owned v true g) e w =
-      let p = i .seat v true g n h e in
+      let p = i .says v true g n h e in
       absurd (new-holds (look W s v g) (rw (new v (p .0)) at (i .holds v g (p .0) (p .1))) n (p .2))
   undo s i new n h (frame-word.Owned v false g) e w =
       let put = undonated-put n s i new h v g e .0 in
       record {
         before = undonated n s i new h v g e;
-        seated = put .seated;
+        sound = put .sound;
         class = new;
         frame = rw (put .frame);
         frames = put .frames;
@@ -94,5 +94,5 @@ module _ (F W : ℕ) (bounds : lengthsHold F (8 * W) ≡ true) where
       }
   undo s i new n h frame-word.Damaged e w = never w
 
-  pub all-new-got : (s : State) → Seated F W s → AllNew s → Got F W s
+  pub all-new-got : (s : State) → WordsSound F W s → AllNew s → Got F W s
   all-new-got s i new = frames-got F W AllNew isOwned none-owned-got (λ t j c n h w. undo t j c n h (own t n) refl w) s i new

@@ -18,7 +18,7 @@ use Rattle.records.specs.declared.guest.Guest.{Guest}
 use Rattle.calls.specs.declared.call.Call.the-variants.{Hypercall}
 use Rattle.history.specs.Sound.{SoundRecord, mayHold}
 use Rattle.history.proofs.Seen.{never, own, look, index-same, index-below}
-use Rattle.history.proofs.Seats.{stateBy, Seated}
+use Rattle.history.proofs.WordsSound.{stateBy, WordsSound}
 use Rattle.history.proofs.Moves.{GranulePut, granule-put}
 use Rattle.history.proofs.SameState.{Placed, placed, map-back}
 use Rattle.history.proofs.Does.{asking, does-guard}
@@ -56,9 +56,9 @@ module _ (F W : ℕ) (bounds : lengthsHold F (8 * W) ≡ true) where
   abbrev NoneShared : State → Type 0
   NoneShared s = (f : ℕ) → f < F → isShared (own s f) ≡ false
 
-  unshared-word : (s : State) → Seated F W s → NoneShared s → (v g f : ℕ) → v < 8 → g < W → look W s v g ≢ map-word.Frame true f
+  unshared-word : (s : State) → WordsSound F W s → NoneShared s → (v g f : ℕ) → v < 8 → g < W → look W s v g ≢ map-word.Frame true f
   unshared-word s i none v g f a b e =
-      let p = i .back v true g f a b e in
+      let p = i .says-back v true g f a b e in
       let y : isShared (own s f) ≡ true = rw (p .1) in
       never (sym (none f (p .0)) ∙ y)
 
@@ -66,7 +66,7 @@ module _ (F W : ℕ) (bounds : lengthsHold F (8 * W) ≡ true) where
   abbrev NoneGuardedFrom : ℕ → State → Type 0
   NoneGuardedFrom n s = (v g : ℕ) → v < 8 → g < W → n ≤ v * W + g → look W s v g ≢ map-word.Guarded
 
-  module _ (s : State) (i : Seated F W s) (v g : ℕ) (slot : v < 8) (below : g < W) (e : look W s v g ≡ map-word.Guarded) where
+  module _ (s : State) (i : WordsSound F W s) (v g : ℕ) (slot : v < 8) (below : g < W) (e : look W s v g ≡ map-word.Guarded) where
     enrolled : guestOf (s .monitor) v .enrolled ≡ true
     enrolled = rw e at (i .holds v g slot below)
 
@@ -82,10 +82,10 @@ module _ (F W : ℕ) (bounds : lengthsHold F (8 * W) ≡ true) where
     guard-undone : Got F W unguarded → Got F W s
     guard-undone got =
         got-next got (Hypercall v (asking 0xC6000007 g))
-        (does-guard (unguarded-put .seated) v (run-live (guestOf (s .monitor) v) (i .records v slot) has-run) has-run g below enrolled (unguarded-put .granule)
+        (does-guard (unguarded-put .sound) v (run-live (guestOf (s .monitor) v) (i .records v slot) has-run) has-run g below enrolled (unguarded-put .granule)
         ∙ rw (map-back i v g (mapBits map-word.Vacant) map-word.Guarded slot below e))
 
-  guards-got : (n : ℕ) → n ≤ 8 * W → (s : State) → Seated F W s → NoneShared s → NoneGuardedFrom n s → Got F W s
+  guards-got : (n : ℕ) → n ≤ 8 * W → (s : State) → WordsSound F W s → NoneShared s → NoneGuardedFrom n s → Got F W s
   unfolding own
   guards-got zero l s i none free =
       plain-got F W bounds s i (λ v g a b.
@@ -111,18 +111,18 @@ module _ (F W : ℕ) (bounds : lengthsHold F (8 * W) ≡ true) where
           on (no q) = there u h a b (λ p. q (rw (p .0, p .1) (sym (at .index)))) (omega arith)
 
       Next : Type 0
-      Next = (t : State) → Seated F W t → NoneShared t → NoneGuardedFrom n t → Got F W t
+      Next = (t : State) → WordsSound F W t → NoneShared t → NoneGuardedFrom n t → Got F W t
 
       by : Dec (look W s v g ≡ map-word.Guarded) → Next → Got F W s
       by (yes e) next =
           let put = unguarded-put s i v g (at .few) (at .below) e in
           guard-undone s i v g (at .few) (at .below) e
-          (next (unguarded s i v g (at .few) (at .below) e) (put .seated)
+          (next (unguarded s i v g (at .few) (at .below) e) (put .sound)
           none
           (fewer (unguarded s i v g (at .few) (at .below) e)
           (λ q. let y = sym (put .granule) ∙ q in let z : _≡_ {A = ℕ} 0 1 = cc in omega arith)
           (λ u h a b c d q. free u h a b d (sym (put .granules u h b c) ∙ q))))
       by (no e) next = next s i none (fewer s e (λ u h a b c d. free u h a b d))
 
-  pub unshared-got : (s : State) → Seated F W s → NoneShared s → Got F W s
+  pub unshared-got : (s : State) → WordsSound F W s → NoneShared s → Got F W s
   unshared-got s i none = guards-got (8 * W) (omega arith) s i none (λ v g a b c. absurd (omega (arith, index-below W v g a b)))

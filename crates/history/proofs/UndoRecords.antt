@@ -22,10 +22,10 @@ use Rattle.host_removal.specs.Calls.{removed}
 use Rattle.calls.specs.declared.call.Call.the-variants.{Run, Remove, RegisterWrite, Hypercall}
 use Rattle.history.specs.Sound.{SoundRecord, mayHold}
 use Rattle.history.proofs.Seen.{never, own, look, at-or-not}
-use Rattle.history.proofs.Seats.{stateBy, Seated}
-use Rattle.history.proofs.RecordMoves.{recorded-seated}
+use Rattle.history.proofs.WordsSound.{stateBy, WordsSound}
+use Rattle.history.proofs.RecordMoves.{recorded-sound}
 use Rattle.history.proofs.RecordLaws.{new-sound, run-sound, bitmap-sound}
-use Rattle.history.proofs.Removal.{owners-gone, look-gone, look-there, gone-seated}
+use Rattle.history.proofs.Removal.{owners-gone, look-gone, look-there, gone-sound}
 use Rattle.history.proofs.Held.{heldThen}
 use Rattle.history.proofs.SlotCalls.{dead-vacant}
 use Rattle.history.proofs.SameState.{guest-same, guest-back, same-state}
@@ -74,12 +74,12 @@ abbrev pub Plain : ℕ → State → Type 0
 Plain W s = (v g : ℕ) → v < 8 → g < W → mayHold newGuest (stateBy (look W s v g)) ≡ true
 
 -- the record of slot n, by the calls that make it
-module _ (F W : ℕ) (s : State) (i : Seated F W s) (plain : Plain W s) (n : ℕ) (slot : n < 8) where
+module _ (F W : ℕ) (s : State) (i : WordsSound F W s) (plain : Plain W s) (n : ℕ) (slot : n < 8) where
   abbrev having : Guest → State
   having r = state (s .frames) (s .map) (withGuest (s .monitor) n r)
 
-  having-seated : (r : Guest) → SoundRecord r → r .live ≡ true → Seated F W (having r)
-  having-seated r k live = recorded-seated i n r k (λ g l q. plain-held r (look W s n g) live (plain n g slot l))
+  having-sound : (r : Guest) → SoundRecord r → r .live ≡ true → WordsSound F W (having r)
+  having-sound r k live = recorded-sound i n r k (λ g l q. plain-held r (look W s n g) live (plain n g slot l))
 
   guest-is : (r : Guest) → guestOf (withGuest (s .monitor) n r) n ≡ r
   guest-is r = guest-put (s .monitor) n r slot (omega (arith, i .sized .guests))
@@ -91,7 +91,7 @@ module _ (F W : ℕ) (s : State) (i : Seated F W s) (plain : Plain W s) (n : ℕ
   unfolding registerNumbered
   written-got zero h got =
       got-next got (RegisterWrite n 2 0)
-      (does-write (having-seated newGuest new-sound refl) n (ap (λ (g : Guest). g .live) (guest-is newGuest)) (ap (λ (g : Guest). g .run) (guest-is newGuest))
+      (does-write (having-sound newGuest new-sound refl) n (ap (λ (g : Guest). g .live) (guest-is newGuest)) (ap (λ (g : Guest). g .run) (guest-is newGuest))
       ∙ having-then (λ g. withBitmap VendorHyp 0 g) newGuest)
   written-got (suc zero) h got = got
   written-got (suc (suc x)) h got = absurd (omega arith)
@@ -102,14 +102,14 @@ module _ (F W : ℕ) (s : State) (i : Seated F W s) (plain : Plain W s) (n : ℕ
   started-got : (x : ℕ) → x ≤ 1 → (a : Bool) → Got F W (having (written x)) → Got F W (having (started x a))
   started-got x h true got =
       got-next got (Run n)
-      (does-run (having-seated (written x) (written-sound x h) refl) n (ap (λ (g : Guest). g .live) (guest-is (written x))) ∙ having-then markRun (written x))
+      (does-run (having-sound (written x) (written-sound x h) refl) n (ap (λ (g : Guest). g .live) (guest-is (written x))) ∙ having-then markRun (written x))
   started-got x h false got = got
 
   joined-got : (x : ℕ) → x ≤ 1 → (a b : Bool) → (b ≡ true → a ≡ true) → Got F W (having (started x a)) → Got F W (having (joined x a b))
   joined-got x h true true k got =
       let r = markRun (written x) in
       got-next got (Hypercall n (asking 0xC6000006 0))
-      (does-enroll (having-seated r (run-sound (written x) (written-sound x h) refl) refl) n (ap (λ (g : Guest). g .live) (guest-is r)) (ap (λ (g : Guest). g .run) (guest-is r))
+      (does-enroll (having-sound r (run-sound (written x) (written-sound x h) refl) refl) n (ap (λ (g : Guest). g .live) (guest-is r)) (ap (λ (g : Guest). g .run) (guest-is r))
       ∙ having-then enroll r)
   joined-got x h false true k got = never (k refl)
   joined-got x h a false k got = got
@@ -138,7 +138,7 @@ module _ (F W : ℕ) (s : State) (i : Seated F W s) (plain : Plain W s) (n : ℕ
     unowned f h frame-word.Waiting e = refl
     unowned f h (frame-word.Owned u b g) e =
         rw (ne-eqb u n (λ q.
-        let p = i .seat u b g f h e in
+        let p = i .says u b g f h e in
         let y : map-word.Vacant ≡ map-word.Frame b f = sym (vacant g (p .1)) ∙ rw (← q) (p .2) in
         let z : _≡_ {A = ℕ} 0 1 = cc in
         omega arith))
@@ -147,8 +147,8 @@ module _ (F W : ℕ) (s : State) (i : Seated F W s) (plain : Plain W s) (n : ℕ
     removed-is : removed n (having newGuest) .left ≡ s
     unfolding own look
     removed-is =
-        let j = having-seated newGuest new-sound refl in
-        same-state (gone-seated j n slot) i
+        let j = having-sound newGuest new-sound refl in
+        same-state (gone-sound j n slot) i
         (λ f l. owners-gone j n slot f l ∙ unowned f l (own s f) refl)
         (λ v g l m. at-or-not (λ u. look W (removed n (having newGuest) .left) u g ≡ look W s u g) n v
         (look-gone j n slot g m ∙ sym (vacant g m))
@@ -156,25 +156,25 @@ module _ (F W : ℕ) (s : State) (i : Seated F W s) (plain : Plain W s) (n : ℕ
         (λ v l. ap (λ (x : Monitor). guestOf x v) (guest-back (s .monitor) n newGuest zeroGuest slot none))
 
     dead-got : Got F W (having newGuest) → Got F W s
-    dead-got got = got-next got (Remove n) (does-remove (having-seated newGuest new-sound refl) n (ap (λ (g : Guest). g .live) (guest-is newGuest)) ∙ removed-is)
+    dead-got got = got-next got (Remove n) (does-remove (having-sound newGuest new-sound refl) n (ap (λ (g : Guest). g .live) (guest-is newGuest)) ∙ removed-is)
 
   slot-got : (b : Bool) → guestOf (s .monitor) n .live ≡ b → Got F W (having newGuest) → Got F W s
   slot-got true e got = live-got e got
   slot-got false e got = dead-got e got
 
 module _ (F W : ℕ) (bounds : lengthsHold F (8 * W) ≡ true) where
-  records-got : (n : ℕ) → n ≤ 8 → (s : State) → Seated F W s → Plain W s → ((v : ℕ) → v < 8 → n ≤ v → guestOf (s .monitor) v ≡ newGuest) → Got F W s
+  records-got : (n : ℕ) → n ≤ 8 → (s : State) → WordsSound F W s → Plain W s → ((v : ℕ) → v < 8 → n ≤ v → guestOf (s .monitor) v ≡ newGuest) → Got F W s
   unfolding look
   records-got zero l s i plain new = all-new-got F W bounds s i (λ v h. new v h (omega arith))
   records-got (suc n) l s i plain new =
       let slot : n < 8 = omega arith in
       let t = state (s .frames) (s .map) (withGuest (s .monitor) n newGuest) in
       slot-got F W s i plain n slot (guestOf (s .monitor) n .live) refl
-      (records-got n (omega arith) t (having-seated F W s i plain n slot newGuest new-sound refl) plain (λ v h m.
+      (records-got n (omega arith) t (having-sound F W s i plain n slot newGuest new-sound refl) plain (λ v h m.
       at-or-not (λ u. u < 8 → n ≤ u → guestOf (t .monitor) u ≡ newGuest) n v
       (λ a b. guest-is F W s i plain n slot newGuest)
       (λ q a b. guest-other (s .monitor) n v newGuest q ∙ new v a (omega arith))
       h m))
 
-  pub plain-got : (s : State) → Seated F W s → Plain W s → Got F W s
+  pub plain-got : (s : State) → WordsSound F W s → Plain W s → Got F W s
   plain-got s i plain = records-got 8 (omega arith) s i plain (λ v h l. absurd (omega arith))

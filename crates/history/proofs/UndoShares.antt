@@ -13,7 +13,7 @@ use Rattle.records.specs.Monitor.{guestOf}
 use Rattle.records.specs.State.{State, state}
 use Rattle.calls.specs.declared.call.Call.the-variants.{Hypercall}
 use Rattle.history.proofs.Seen.{never, own}
-use Rattle.history.proofs.Seats.{Says, Seated}
+use Rattle.history.proofs.WordsSound.{Says, WordsSound}
 use Rattle.history.proofs.Tied.{tied-named}
 use Rattle.history.proofs.Moves.{FramePut, GranulePut, pair-put}
 use Rattle.history.proofs.SameState.{frame-back, map-back}
@@ -26,9 +26,9 @@ module _ (F W : ℕ) (bounds : lengthsHold F (8 * W) ≡ true) where
   abbrev Any : State → Type 0
   Any s = Unit {0}
 
-  module _ (s : State) (i : Seated F W s) (n : ℕ) (h : n < F) (v g : ℕ) (e : own s n ≡ frame-word.Owned v true g) where
+  module _ (s : State) (i : WordsSound F W s) (n : ℕ) (h : n < F) (v g : ℕ) (e : own s n ≡ frame-word.Owned v true g) where
     said : Says W s v true g n
-    said = i .seat v true g n h e
+    said = i .says v true g n h e
 
     has-run : guestOf (s .monitor) v .run ≡ true
     has-run = rw (said .2) at (i .holds v g (said .0) (said .1))
@@ -46,18 +46,18 @@ module _ (F W : ℕ) (bounds : lengthsHold F (8 * W) ≡ true) where
     share-undone : Got F W unshared → Got F W s
     share-undone got =
         got-next got (Hypercall v (asking 0xC6000003 g))
-        (does-share (unshared-put .0 .seated) v live has-run g (said .1) n (unshared-put .1 .granule)
+        (does-share (unshared-put .0 .sound) v live has-run g (said .1) n (unshared-put .1 .granule)
         ∙ rw
         (frame-back i n (frameBits (frame-word.Owned v false g)) (frame-word.Owned v true g) h e, map-back i v g (mapBits (map-word.Frame false n)) (map-word.Frame true n) (said .0) (said .1) (said .2)))
 
-  undo : (s : State) → Seated F W s → (n : ℕ) → n < F → (d : FrameWord) → own s n ≡ d → isShared d ≡ true → Undone F W Any isShared s n
+  undo : (s : State) → WordsSound F W s → (n : ℕ) → n < F → (d : FrameWord) → own s n ≡ d → isShared d ≡ true → Undone F W Any isShared s n
   undo s i n h frame-word.Host e w = never w
   undo s i n h frame-word.Waiting e w = never w
   undo s i n h (frame-word.Owned v true g) e w =
       let put = unshared-put s i n h v g e .0 in
       record {
         before = unshared s i n h v g e;
-        seated = put .seated;
+        sound = put .sound;
         class = tt;
         frame = rw (put .frame);
         frames = put .frames;
@@ -66,5 +66,5 @@ module _ (F W : ℕ) (bounds : lengthsHold F (8 * W) ≡ true) where
   undo s i n h (frame-word.Owned v false g) e w = never w
   undo s i n h frame-word.Damaged e w = never w
 
-  pub seated-got : (s : State) → Seated F W s → Got F W s
-  seated-got s i = frames-got F W Any isShared (λ t j c none. unshared-got F W bounds t j none) (λ t j c n h w. undo t j n h (own t n) refl w) s i tt
+  pub sound-got : (s : State) → WordsSound F W s → Got F W s
+  sound-got s i = frames-got F W Any isShared (λ t j c none. unshared-got F W bounds t j none) (λ t j c n h w. undo t j n h (own t n) refl w) s i tt
