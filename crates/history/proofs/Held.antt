@@ -5,11 +5,11 @@ use mathlib.Core.Bool.{Bool, true, false, cond, _&&_}
 use Prim.Native.Nat.{ℕ, suc, _+_, _<_, _≤_}
 use native.Mathlib.Decide.{ℕ-discrete, decLt}
 use native.Mathlib.Omega.{arith}
-use borrow.Author.Tests.{lt-ltb, le-ltb, ltb-true, le-leb, lt-leb, eq-eqb, ne-eqb}
+use borrow.Author.Tests.{lt-ltb, ltb-true, le-leb, leb-true, eq-eqb, ne-eqb, eqb-true}
 use lib.Dec.{eqb, leb, ltb}
 use Rattle.words.specs.declared.frame_word.FrameWord.{FrameWord}
 use Rattle.words.specs.declared.frame_word.FrameWord.the-variants.{Host, Waiting, Owned, Damaged}
-use Rattle.words.proofs.Booleans.{both-true}
+use Rattle.words.proofs.Booleans.{both-true, false-unless}
 use Rattle.granules.specs.Kind.{frameThen}
 use Rattle.granules.specs.declared.kinds.Kind.{Kind}
 use Rattle.granules.specs.declared.kinds.Kind.the-variants as kind
@@ -47,26 +47,20 @@ owner-changed about made relinquished = refl
 owner-changed about made ownerRemoved = refl
 owner-changed about made cleared = refl
 
-among-in : (v g n u h : ℕ) → u ≡ v → g ≤ h → h < g + n → among v g n u h ≡ true
-among-in v g n u h p q r = rw (eq-eqb u v p, le-leb g h q, lt-ltb h (g + n) r)
+among-is : (v g n u h : ℕ) → among v g n u h ≡ true → (u ≡ v) × (g ≤ h) × (h < g + n)
+among-is v g n u h e =
+    let p = both-true (eqb u v) (leb g h && ltb h (g + n)) e in
+    let q = both-true (leb g h) (ltb h (g + n)) (p .1) in
+    (eqb-true u v (p .0), leb-true g h (q .0), ltb-true h (g + n) (q .1))
 
-among-below : (v g n u h : ℕ) → among v g n u h ≡ true → h < g + n
-among-below v g n u h e =
-    ltb-true h (g + n) (both-true (leb g h) (ltb h (g + n)) (both-true (eqb u v) (leb g h && ltb h (g + n)) e .1) .1)
+among-in : (v g n u h : ℕ) → u ≡ v → g ≤ h → h < g + n → among v g n u h ≡ true
+among-in v g n u h p q r = both (eqb u v) (leb g h && ltb h (g + n)) (eq-eqb u v p) (both (leb g h) (ltb h (g + n)) (le-leb g h q) (lt-ltb h (g + n) r))
+  where
+    both : (a b : Bool) → a ≡ true → b ≡ true → a && b ≡ true
+    both a b e f = rw (e, f)
 
 among-out : (v g n u h : ℕ) → (u ≡ v → g ≤ h → h < g + n → ⊥) → among v g n u h ≡ false
-among-out v g n u h no-way = on (ℕ-discrete u v) (decLt h g) (decLt h (g + n))
-  where
-    at-end : (a b c : Bool) → c ≡ false → a && (b && c) ≡ false
-    at-end true true c e = e
-    at-end true false c e = refl
-    at-end false b c e = refl
-
-    on : Dec (u ≡ v) → Dec (h < g) → Dec (h < g + n) → among v g n u h ≡ false
-    on (no m) d e = rw (ne-eqb u v m)
-    on (yes m) (yes d) e = rw (eq-eqb u v m, lt-leb g h d)
-    on (yes m) (no d) (no e) = at-end (eqb u v) (leb g h) (ltb h (g + n)) (le-ltb h (g + n) (omega arith))
-    on (yes m) (no d) (yes e) = absurd (no-way m (omega arith) e)
+among-out v g n u h outside = false-unless (among v g n u h) (λ e. let p = among-is v g n u h e in outside (p .0) (p .1) (p .2))
 
 -- one granule more
 among-next : (v g n u h : ℕ) → among v g (suc n) u h ≡ cond (among v g n u h) true (among v (g + n) 1 u h)
@@ -103,7 +97,7 @@ held-next k v g n (Owned u b h) = rw (among-next v g n u h) (on (among v g n u h
 
     on : (x : Bool) → among v g n u h ≡ x
         → heldThen (among v (g + n) 1) (frameThen k) (cond x (frameThen k u h) (Owned u b h)) ≡ cond (cond x true (among v (g + n) 1 u h)) (frameThen k u h) (Owned u b h)
-    on true e = beyond k (among-out v (g + n) 1 u h (λ p q r. omega (arith, among-below v g n u h e)))
+    on true e = beyond k (among-out v (g + n) 1 u h (λ p q r. omega (arith, among-is v g n u h e)))
     on false e = refl
 held-next k v g n Damaged = refl
 

@@ -36,6 +36,10 @@ not-true : (b : Bool) → not b ≡ true → b ≡ false
 not-true true e = sym e
 not-true false e = refl
 
+unless : (b : Bool) (y x : FrameChange) → b ≡ false → cond b y x ≡ x
+unless true y x e = never (sym e)
+unless false y x e = refl
+
 -- a call that is not done changes no frame by the log
 pub undone-log : (f : ℕ) (c : Call) (n : Numbers) (x : FrameChange) → undone n ≡ true → afterCall f c n x ≡ x
 undone-log f c n x e = on c
@@ -47,10 +51,10 @@ undone-log f c n x e = on c
     host = not-true (hostDone n) (p .0)
 
     on : (c : Call) → afterCall f c n x ≡ x
-    on (Donate v d g) = rw host
-    on (Remove v) = rw host
-    on (Cleared d) = rw host
-    on (Hypercall v r) = rw (not-true (guestDone n) (p .1))
+    on (Donate v d g) = unless (hostDone n && eqb f d) _ x (rw host)
+    on (Remove v) = unless (hostDone n) _ x host
+    on (Cleared d) = unless (hostDone n && eqb f d) _ x (rw host)
+    on (Hypercall v r) = unless (guestDone n) _ x (not-true (guestDone n) (p .1))
     on Create = refl
     on (Run v) = refl
     on (Access d) = refl

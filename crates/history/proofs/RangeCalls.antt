@@ -1,5 +1,5 @@
 -- A hypercall that works on granules keeps what every call keeps, and its R1 is what the log needs to know.
-use mathlib.Core.Path.{_≡_, refl, sym, fun-ext, _∙_}
+use mathlib.Core.Path.{_≡_, refl, sym, ap, fun-ext, _∙_}
 use mathlib.Core.Bool.{Bool, true, false, cond}
 use mathlib.Core.List.{List}
 use Prim.Native.Nat.{ℕ, zero, suc, _<_, _≤_}
@@ -54,7 +54,9 @@ module _ {F W : ℕ} {s : State} (i : WordsSound F W s) (v : ℕ) (slot : v < 8)
   unfolding numbersOf
   done-kept o e tells j q map frames next logs at = record {
     sound = at .sound;
-    logged = λ f l x h. rw (after-asked v r (cond tells (suc j) 0) x, is) (logs map frames next at f l x h);
+    logged = λ f l x h.
+        logs map frames next at f l x h
+        ∙ ap ownerAfter (sym (after-asked v r (cond tells (suc j) 0) x ∙ ap (λ (a : Function). afterFunction a v g (cond tells (suc j) 0) x) is));
     unhurt = refl;
   }
 
