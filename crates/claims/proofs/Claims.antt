@@ -52,7 +52,7 @@ use Rattle.claims.proofs.RunLaws.{run-twice}
 use Rattle.claims.proofs.ShowLaws.{row-or-empty}
 use Rattle.claims.proofs.RemovalCounts.{removal-counts}
 -- Condition 2, the exact invariant, and what follows for every history.
-pub use Rattle.history.proofs.History.{calls-keep-sound, histories-are-sound, host-access-by-history, no-such-frame, no-damage-in-histories, private-or-waiting-closed, one-granule-per-frame, reachable-exactly}
+pub use Rattle.history.proofs.History.{calls-keep-sound, histories-are-sound, host-access-by-history, no-such-frame, no-damage-in-histories, private-or-waiting-closed, one-granule-per-frame, reachable-exactly, history-cases}
 
 -- A range call of slot v: R0 has the number of one of the four calls in its low half, and anything above.
 module _ (c : RangeCall) (r0 : ℕ) (number : r0 % 2 ^ 32 ≡ numberOf c) (v b r3 : ℕ) (s : State) where

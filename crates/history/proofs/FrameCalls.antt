@@ -75,7 +75,7 @@ module _ {F W : ℕ} {s : State} (i : WordsSound F W s) where
         sound = rw (width-is (i .sized)) (put .sound);
         logged = λ k l x q.
             one-logged s (donated v f g s .left) f (log.donated v g) (put .frame) (put .frames) k x q;
-        unhurt = refl;
+        usual-verdict = refl;
       })
 
   pub keep-cleared : (f : ℕ) → Kept F W s (Cleared f) (clearedOf f s)
@@ -101,7 +101,7 @@ module _ {F W : ℕ} {s : State} (i : WordsSound F W s) where
         sound = put .sound;
         logged = λ k l x q.
             one-logged s (handedBack f s .left) f log.cleared (put .frame) (put .frames) k x q;
-        unhurt = refl;
+        usual-verdict = refl;
       })
 
   pub keep-access : (f : ℕ) → Kept F W s (Access f) (hostAccessOf f s)
@@ -109,4 +109,4 @@ module _ {F W : ℕ} {s : State} (i : WordsSound F W s) where
   keep-access f =
       tests-kept i (Access f) (accessTests (s .frames) (s .map) f) (accessTold f s)
       (sure _ (lengths-hold (i .sized)), λ a. (λ q. (refl, refl), λ hf. (sure _ (frame-sound i f (below-frames i f hf)), λ b. tt)))
-      (λ p. record { sound = i; logged = λ k l x q. q; unhurt = refl })
+      (λ p. record { sound = i; logged = λ k l x q. q; usual-verdict = refl })

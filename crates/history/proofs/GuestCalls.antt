@@ -63,7 +63,7 @@ module _ {F W : ℕ} {s : State} (i : WordsSound F W s) (v : ℕ) (r : Registers
       record {
         sound = recorded-sound i v (enroll g) (enroll-sound g (i .records v slot) live has-run) (λ h l q. enroll-holds g (stateBy (look W s v h)) q);
         logged = λ f l x h. rw (after-asked v r 0 x, is) h;
-        unhurt = refl;
+        usual-verdict = refl;
       }
   function-kept GuardMap is may =
       change-kept i v slot r GuardMap is guarding NotSupported false (min rangeLimit 1) may (λ j l. unmoved i v slot r GuardMap is guarding (suc j) refl)
@@ -127,4 +127,4 @@ module _ {F W : ℕ} {s : State} (i : WordsSound F W s) (v : ℕ) where
       let g = guestOf (s .monitor) v in
       tests-kept i (Abort v a) (callerTests (length (s .frames)) (length (s .map)) g) (answered s (accessOf (s .frames) (s .map) v a g))
       (sure _ (lengths-hold (i .sized)), λ b. (λ q. (refl, refl), λ c. (λ q. (refl, refl), λ d. tt)))
-      (λ p. record { sound = i; logged = λ k l x q. q; unhurt = access-usual a (live-slot (s .monitor) v (p .1 .0)) })
+      (λ p. record { sound = i; logged = λ k l x q. q; usual-verdict = access-usual a (live-slot (s .monitor) v (p .1 .0)) })

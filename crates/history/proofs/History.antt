@@ -2,30 +2,42 @@
 use mathlib.Core.Path.{_≡_, refl, ap, subst, _∙_}
 use mathlib.Core.Logic.{_≢_}
 use mathlib.Core.Bool.{Bool, true, false, not}
-use mathlib.Core.List.{List}
+use mathlib.Core.List.{List, map}
 use Prim.Native.Nat.{ℕ, _*_, _/_, _%_, _<_, _≤_}
 use native.Mathlib.Omega.{arith}
 use borrow.Author.Tests.{lt-ltb, le-ltb, le-leb, eq-eqb}
 use lib.Dec.{eqb}
 use lib.ListN.{length}
-use Rattle.words.specs.MapWord.{mapWordOf}
+use Rattle.words.specs.MapWord.{mapWordOf, mapBits}
+use Rattle.words.specs.FrameWord.{frameBits, frameWordOf}
 use Rattle.words.specs.declared.map_word.MapWord.the-variants as map-word
 use Rattle.words.specs.declared.frame_word.FrameWord.{FrameWord}
 use Rattle.words.proofs.Booleans.{both-true}
 use Rattle.tables.specs.Length.{widthOf, framesHold, mapHolds, lengthsHold}
-use Rattle.tables.specs.Row.{wordAt}
-use Rattle.tables.specs.Pair.{pairOf}
+use Rattle.tables.specs.Row.{wordAt, boundsOf}
+use Rattle.tables.specs.Pair.{pairOf, granuleState, pairAt, frameState}
 use Rattle.tables.specs.declared.pairs.FrameState.{FrameState}
 use Rattle.tables.specs.declared.pairs.FrameState.the-variants as frame-state
 use Rattle.records.specs.Answer.{numbersOf, verdictWith}
 use Rattle.records.specs.State.{State}
-use Rattle.host_frames.specs.Calls.{openTo, hostAccessOf}
+use Rattle.records.specs.Monitor.{guestOf, withGuest}
+use Rattle.granules.specs.Kind.{changeOf}
+use Rattle.granules.specs.Step.{stepFrom}
+use Rattle.functions.specs.Function.{functionOf}
+use Rattle.functions.specs.Table.{rowOf, actionOf}
+use Rattle.guest.specs.Calls.{actOf, hypercallOf}
+use Rattle.rows.specs.WholeRow.{rowVacant, undamagedFrom, framesFreed, framesNamed}
+use Rattle.host_donation.specs.Calls.{donateOf}
+use Rattle.host_frames.specs.Calls.{openTo, hostAccessOf, clearedOf}
+use Rattle.host_guests.specs.Calls.{freeFrom, createOf, runOf}
+use Rattle.host_removal.specs.Calls.{removeOf}
 use Rattle.calls.specs.Step.{step, stateAfter, freshState}
 use Rattle.calls.specs.declared.call.Call.{Call}
 use Rattle.calls.specs.declared.call.Call.the-variants.{Access}
-use Rattle.history.specs.Log.{FrameChange, neverDonated, donated, shared, unshared, relinquished, ownerRemoved, cleared, openAfter, lastChange}
+use Rattle.history.specs.Log.{FrameChange, neverDonated, donated, shared, unshared, relinquished, ownerRemoved, cleared, openAfter, lastChange, afterHypercall}
 use Rattle.history.specs.History.{logOf, privateOrWaiting, Reachable}
 use Rattle.history.specs.Sound.{Sound}
+use Rattle.history.specs.Cases.{logs, found, expected}
 use Rattle.history.proofs.Seen.{own, look, lengths-hold, width-is}
 use Rattle.history.proofs.WordsSound.{WordsSound}
 use Rattle.history.proofs.SoundLaws.{frameBy, frame-found, frame-sound, words-sound, sound-words}
@@ -99,7 +111,7 @@ module _ (F W : ℕ) (frames-some : 1 ≤ F) (frames-few : F ≤ 16384) (width-s
       → (numbersOf (step c (stateAfter cs (freshState F W)) .answer) .verdict ≢ 1) × (numbersOf (step c (stateAfter cs (freshState F W)) .answer) .verdict ≢ 6)
   no-damage-in-histories cs c =
       let q = numbersOf (step c (stateAfter cs (freshState F W)) .answer) .verdict in
-      let p = both-true (not (eqb q 1)) (not (eqb q 6)) (keep (sound cs) c .unhurt) in
+      let p = both-true (not (eqb q 1)) (not (eqb q 6)) (keep (sound cs) c .usual-verdict) in
       (other-than q 1 (p .0), other-than q 6 (p .1))
 
   -- A frame that is private or waiting is never accessible.
@@ -133,3 +145,8 @@ reachable-exactly s = (
       let got = sound-got F W (i .sized .bounds) s i in
       record { F = F; W = W; allowed = i .sized .bounds; calls = got .calls; leaves = got .leaves },
 )
+
+-- Worked logs: the last change that each says of a frame, and what access then answers.
+pub history-cases : map found logs ≡ map expected logs
+unfolding step createOf freeFrom donateOf runOf removeOf clearedOf hostAccessOf hypercallOf actOf functionOf rowOf actionOf stepFrom changeOf rowVacant undamagedFrom framesFreed framesNamed boundsOf frameState pairOf granuleState pairAt mapWordOf frameWordOf mapBits frameBits numbersOf guestOf withGuest framesHold mapHolds afterHypercall
+history-cases = refl

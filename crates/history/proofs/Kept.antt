@@ -30,7 +30,7 @@ undone n = not (hostDone n) && not (guestDone n)
 pub record Kept (F W : ℕ) (s : State) (c : Call) (r : Answered) : Type 0 where
   pub sound : WordsSound F W (r .left)
   pub logged : (f : ℕ) → f < F → (x : FrameChange) → own s f ≡ ownerAfter x → own (r .left) f ≡ ownerAfter (afterCall f c (numbersOf (r .answer)) x)
-  pub unhurt : usual (numbersOf (r .answer)) ≡ true
+  pub usual-verdict : usual (numbersOf (r .answer)) ≡ true
 
 not-true : (b : Bool) → not b ≡ true → b ≡ false
 not-true true e = sym e
@@ -81,7 +81,7 @@ module _ {F W : ℕ} {s : State} (i : WordsSound F W s) (c : Call) where
   refused-kept a h = record {
     sound = i;
     logged = λ f l x e. rw (undone-log f c (numbersOf a) x (h .0)) e;
-    unhurt = h .1;
+    usual-verdict = h .1;
   }
 
   pub tests-kept : (ts : Tests Answer) (done : Answered) → Refusals ts → (Passes ts → Kept F W s c done)

@@ -57,7 +57,7 @@ module _ {F W : ℕ} {s : State} (i : WordsSound F W s) (v : ℕ) (slot : v < 8)
     logged = λ f l x h.
         logs map frames next at f l x h
         ∙ ap ownerAfter (sym (after-asked v r (cond tells (suc j) 0) x ∙ ap (λ (a : Function). afterFunction a v g (cond tells (suc j) 0) x) is));
-    unhurt = refl;
+    usual-verdict = refl;
   }
 
   error-kept : (o : Operation) (e : Error) (map frames : List ℕ) (next : ℕ) → Reached F W (s .monitor) o v s g 0 map frames next
@@ -67,7 +67,7 @@ module _ {F W : ℕ} {s : State} (i : WordsSound F W s) (v : ℕ) (slot : v < 8)
     logged = λ f l x h.
         rw (undone-log f (Hypercall v r) (numbersOf (errorAnswer e)) x (error-fine e .0))
         (at .owners f l ∙ held-none v g (frameThen (o .makes)) (own s f) ∙ h);
-    unhurt = error-fine e .1;
+    usual-verdict = error-fine e .1;
   }
 
   ended-kept : (o : Operation) (e : Error) (tells : Bool) (n : ℕ) (d : End Place Refusal) → run (tableStep o v) n (place (s .map) (s .frames) g) ≡ d

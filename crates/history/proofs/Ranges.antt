@@ -35,7 +35,7 @@ use Rattle.history.proofs.WordsSound.{stateBy, WordsSound}
 use Rattle.history.proofs.Tied.{Tied, tied-named, tied-apart, NamesNone}
 use Rattle.history.proofs.Moves.{pair-put, granule-put}
 use Rattle.history.proofs.Held.{heldThen, held-none, held-next, held-here, held-elsewhere}
-use Rattle.history.proofs.Taken.{step-wrote, hasFrame, barely, framed}
+use Rattle.history.proofs.Taken.{step-wrote, hasFrame, without-frame, framed}
 
 -- what a guest may make of its granules
 abbrev pub mayMake : Guest → Kind → Bool
@@ -90,7 +90,7 @@ module _ (F W : ℕ) (m : Monitor) (o : Operation) (v : ℕ) (hv : v < 8) (may :
     bare-reached : (w : ℕ) → Bare w ≡ changeOf o found → ReachedAt F W m o v s g 1 (place (set map (wordIndex (length map) v g) w) frames (suc g))
     unfolding own
     bare-reached w e =
-        let k = barely o found w e in
+        let k = without-frame o found w e in
         let says : look W s v g ≡ mapWordBy found = sym seen ∙ granule-says frames v g (mapWordOf (wordAt map v g)) found refl (k .undamaged) in
         let none : NamesNone (look W s v g) = rw says (k .before) in
         record {

@@ -121,7 +121,7 @@ module _ {F W : ℕ} {s : State} (i : WordsSound F W s) where
       record {
         sound = recorded-sound i v newGuest new-sound (λ g l q. rw (dead-row v g h l (dead h)));
         logged = λ k l x q. q;
-        unhurt = refl;
+        usual-verdict = refl;
       })
 
   pub keep-run : (v : ℕ) → Kept F W s (Run v) (runOf v s)
@@ -132,7 +132,7 @@ module _ {F W : ℕ} {s : State} (i : WordsSound F W s) where
       (λ p. record {
         sound = recorded-sound i v (markRun g) (run-sound g (i .records v (live-slot (s .monitor) v (p .0))) (p .0)) (λ h l q. run-holds g (stateBy (look W s v h)) q);
         logged = λ k l x q. q;
-        unhurt = refl;
+        usual-verdict = refl;
       })
 
   pub keep-remove : (v : ℕ) → Kept F W s (Remove v) (removeOf v s)
@@ -147,7 +147,7 @@ module _ {F W : ℕ} {s : State} (i : WordsSound F W s) where
         logged = λ k l x q.
             owners-gone i v slot k l ∙ ap (heldThen (λ u h. eqb u v) (λ u h. frame-word.Waiting)) q
             ∙ sym (owner-changed (λ u h. eqb u v) (λ u h. log.ownerRemoved) x);
-        unhurt = refl;
+        usual-verdict = refl;
       })
 
   pub keep-read : (v n : ℕ) → Kept F W s (RegisterRead v n) (registerReadOf v n s)
@@ -155,7 +155,7 @@ module _ {F W : ℕ} {s : State} (i : WordsSound F W s) where
   keep-read v n =
       tests-kept i (RegisterRead v n) (readTests (guestOf (s .monitor) v) (registerNumbered n)) (bitmapTold v n s)
       (λ q. (refl, refl), λ a. (λ q. (refl, refl), λ b. tt))
-      (λ p. record { sound = i; logged = λ k l x q. q; unhurt = refl })
+      (λ p. record { sound = i; logged = λ k l x q. q; usual-verdict = refl })
 
   pub keep-write : (v n y : ℕ) → Kept F W s (RegisterWrite v n y) (registerWriteOf v n y s)
   unfolding registerWriteOf numbersOf own
@@ -169,15 +169,15 @@ module _ {F W : ℕ} {s : State} (i : WordsSound F W s) where
             recorded-sound i v (withBitmap r y g) (bitmap-sound r y g (i .records v (live-slot (s .monitor) v (p .0))) (p .0) (p .1 .1 .0))
             (λ h l q. flags-hold g (withBitmap r y g) (bitmap-flags r y g) (stateBy (look W s v h)) q);
         logged = λ k l x q. q;
-        unhurt = refl;
+        usual-verdict = refl;
       })
 
   -- show hands back a part of the map table and leaves all as it was
-  shown-unhurt : (v : ℕ) → usual (numbersOf (showOf v (s .monitor) (s .map) .answer)) ≡ true
+  show-usual : (v : ℕ) → usual (numbersOf (showOf v (s .monitor) (s .map) .answer)) ≡ true
   unfolding showOf
-  shown-unhurt v =
+  show-usual v =
       let n = length (s .map) in
       rw (both-true (framesHold (length (s .frames))) (mapHolds n) (lengths-hold (i .sized)) .1) (shown-usual (guestOf (s .monitor) v .live) (rowOf (s .map) v))
 
   pub keep-show : (v : ℕ) → Kept F W s (Show v) (answered s (showOf v (s .monitor) (s .map) .answer))
-  keep-show v = record { sound = i; logged = λ k l x q. q; unhurt = shown-unhurt v }
+  keep-show v = record { sound = i; logged = λ k l x q. q; usual-verdict = show-usual v }

@@ -36,7 +36,7 @@ hasFrame Shared = true
 hasFrame Guarded = false
 
 -- a granule without a frame gets a word without one
-pub record Barely (o : Operation) (k : GranuleState) (w : ℕ) : Type 0 where
+pub record WithoutFrame (o : Operation) (k : GranuleState) (w : ℕ) : Type 0 where
   pub before : NamesNone (mapWordBy k)
   pub undamaged : k ≢ granule-state.Damaged
   pub word : w ≡ mapBits (wordWith (o .makes) 0)
@@ -56,16 +56,16 @@ frame-if : (x : Bool) (f w : ℕ) → Bare w ≡ cond x (WithFrame f) Refused �
 frame-if true f w e = let z : _≡_ {A = ℕ} 0 1 = cc in omega arith
 frame-if false f w e = let z : _≡_ {A = ℕ} 0 1 = cc in omega arith
 
-pub barely : (o : Operation) (k : GranuleState) (w : ℕ) → Bare w ≡ changeOf o k → Barely o k w
+pub without-frame : (o : Operation) (k : GranuleState) (w : ℕ) → Bare w ≡ changeOf o k → WithoutFrame o k w
 unfolding changeOf
-barely o granule-state.Vacant w e =
+without-frame o granule-state.Vacant w e =
     let p = bare-kind (o .makes) w (bare-if (isOf (o .needs) granule-state.Vacant) (o .makes) w e) in
     record { before = tt; undamaged = λ q. let z : _≡_ {A = ℕ} 0 1 = cc in omega arith; word = p .0; after = p .1 }
-barely o (granule-state.Frame b f) w e = absurd (frame-if (isOf (o .needs) (granule-state.Frame b f)) f w e)
-barely o granule-state.Guarded w e =
+without-frame o (granule-state.Frame b f) w e = absurd (frame-if (isOf (o .needs) (granule-state.Frame b f)) f w e)
+without-frame o granule-state.Guarded w e =
     let p = bare-kind (o .makes) w (bare-if (isOf (o .needs) granule-state.Guarded) (o .makes) w e) in
     record { before = tt; undamaged = λ q. let z : _≡_ {A = ℕ} 0 1 = cc in omega arith; word = p .0; after = p .1 }
-barely o granule-state.Damaged w e = let z : _≡_ {A = ℕ} 0 1 = cc in absurd (omega arith)
+without-frame o granule-state.Damaged w e = let z : _≡_ {A = ℕ} 0 1 = cc in absurd (omega arith)
 
 -- a granule with a frame is not of a kind without one
 framed-if : (x : Bool) (f k : ℕ) → WithFrame f ≡ cond x (WithFrame k) Refused → x ≡ true

@@ -1,3 +1,4 @@
 pub mod Log
 pub mod History
 pub mod Sound
+pub mod Cases

@@ -1,0 +1,64 @@
+-- Worked logs: what calls from fresh tables of 256 frames and 64 granules a slot come to, for one frame.
+use mathlib.Core.List.{List, [], _∷_, _++_}
+use Prim.Native.Nat.{ℕ, _*_}
+use Rattle.records.specs.Answer.{numbersOf, verdictWith}
+use Rattle.records.specs.declared.answer.Numbers.{Numbers}
+use Rattle.calls.specs.Step.{step, stateAfter, freshState}
+use Rattle.calls.specs.declared.call.Call.{Call}
+use Rattle.calls.specs.declared.call.Call.the-variants.{Create, Donate, Run, Remove, Cleared, Access, Hypercall}
+use Rattle.history.specs.Log.{FrameChange, neverDonated, donated, shared, unshared, relinquished, ownerRemoved, cleared, lastChange}
+use Rattle.history.specs.History.{logOf}
+
+-- calls, a frame, the last change that their log says of it, and what access then answers
+pub record Case : Type 0 where
+  pub calls : List Call
+  pub frame : ℕ
+  pub change : FrameChange
+  pub access : ℕ
+
+abbrev case : List Call → ℕ → FrameChange → ℕ → Case
+case cs f c n = record { calls = cs; frame = f; change = c; access = n }
+
+abbrev pub expected : Case → FrameChange × Numbers
+expected c = (c .change, verdictWith 0 (c .access))
+
+abbrev pub found : Case → FrameChange × Numbers
+found c =
+    let s = freshState 256 64 in
+    (lastChange (logOf (c .calls) s) (c .frame), numbersOf (step (Access (c .frame)) (stateAfter (c .calls) s) .answer))
+
+-- a call of slot v at granule g with a count
+abbrev asks : ℕ → ℕ → ℕ → ℕ → Call
+asks v number g n = Hypercall v (record { r0 = number; r1 = g * 4096; r2 = n; r3 = 0 })
+
+-- a guest in slot 0 with frames 3 and 4 at granules 5 and 7, one in slot 1 with frame 9 at granule 5
+abbrev began : List Call
+began = Create ∷ Donate 0 3 5 ∷ Donate 0 4 7 ∷ Create ∷ Donate 1 9 5 ∷ Run 0 ∷ Run 1 ∷ []
+
+abbrev pub logs : List Case
+logs =
+    case [] 3 neverDonated 1
+    ∷ case began 200 neverDonated 1
+    ∷ case began 3 (donated 0 5) 0
+    -- a donation that is refused: the frame is a guest's, or the granule is not vacant
+    ∷ case (began ++ (Donate 1 3 6 ∷ [])) 3 (donated 0 5) 0
+    ∷ case (began ++ (Donate 0 11 5 ∷ [])) 11 neverDonated 1
+    ∷ case (began ++ (asks 0 0xC6000003 5 1 ∷ [])) 3 (shared 0 5) 1
+    -- the upper half of R0 isn't looked at
+    ∷ case (began ++ (asks 0 0x1C6000003 5 1 ∷ [])) 3 (shared 0 5) 1
+    -- three granules asked for, of which the second has no frame: R1 is 1
+    ∷ case (began ++ (asks 0 0xC6000003 5 3 ∷ [])) 4 (donated 0 7) 0
+    -- the same granule of another guest
+    ∷ case (began ++ (asks 0 0xC6000003 5 1 ∷ [])) 9 (donated 1 5) 0
+    ∷ case (began ++ (asks 0 0xC6000003 5 1 ∷ asks 0 0xC6000004 5 1 ∷ [])) 3 (unshared 0 5) 0
+    -- a shared granule can't be relinquished, a private one can
+    ∷ case (began ++ (asks 0 0xC6000003 5 1 ∷ asks 0 0xC6000009 5 0 ∷ [])) 3 (shared 0 5) 1
+    ∷ case (began ++ (asks 0 0xC6000009 5 0 ∷ [])) 3 relinquished 0
+    -- a removed guest's frames wait, shared ones too; others' do not change
+    ∷ case (began ++ (asks 0 0xC6000003 5 1 ∷ Remove 0 ∷ [])) 3 ownerRemoved 0
+    ∷ case (began ++ (asks 1 0xC6000003 5 1 ∷ Remove 0 ∷ [])) 9 (shared 1 5) 1
+    -- a clearing counts where the frame waits
+    ∷ case (began ++ (Cleared 3 ∷ [])) 3 (donated 0 5) 0
+    ∷ case (began ++ (Remove 0 ∷ Cleared 3 ∷ [])) 3 cleared 1
+    ∷ case (began ++ (Remove 0 ∷ Cleared 3 ∷ Donate 1 3 8 ∷ [])) 3 (donated 1 8) 0
+    ∷ []
