@@ -1,8 +1,6 @@
 -- Calls of which no test refuses, and the states that they leave.
-use mathlib.Core.Path.{_≡_, refl, sym, ap, _∙_}
+use mathlib.Core.Path.{_≡_, sym, ap, _∙_}
 use mathlib.Core.Bool.{true, false}
-use mathlib.Core.List.{[], _∷_}
-use mathlib.Core.Option.{none}
 use Prim.Native.Nat.{ℕ, suc, _+_, _*_, _%_, _<_}
 use native.Mathlib.Omega.{arith}
 use borrow.Author.Tests.{lt-ltb, eq-eqb}
@@ -17,20 +15,18 @@ use Rattle.words.proofs.GranuleLaws.{granule-address}
 use Rattle.tables.specs.Row.{wordAt}
 use Rattle.tables.specs.Pair.{granuleState}
 use Rattle.records.specs.Monitor.{newGuest, enroll, guestOf, withGuest}
-use Rattle.records.specs.State.{State, state, Answered}
-use Rattle.records.specs.Tests.{Tests, firstRefusal, unlessRefused}
+use Rattle.records.specs.State.{State, state}
 use Rattle.records.proofs.MonitorLaws.{live-slot}
-use Rattle.records.proofs.TestLaws.{Passes}
 use Rattle.granules.specs.Kind.{changeOf, sharing, guarding}
 use Rattle.granules.specs.Step.{place, stepFrom, tableStep}
 use Rattle.functions.specs.Function.{functionOf}
 use Rattle.functions.specs.Table.{rowOf, actionOf}
 use Rattle.functions.specs.declared.rows.Registers.{Registers}
 use Rattle.guest.specs.Calls.{actOf, hypercallOf}
-use Rattle.host_registers.specs.Registers.{registerNumbered, writeTests, bitmapWritten, registerWriteOf}
-use Rattle.host_donation.specs.Calls.{donateTests, donated, donateOf}
-use Rattle.host_guests.specs.Calls.{freeSlot, createTests, created, createOf, runTests, ran, runOf}
-use Rattle.host_removal.specs.Calls.{removeTests, removed, removeOf}
+use Rattle.host_registers.specs.Registers.{registerNumbered, bitmapWritten, registerWriteOf}
+use Rattle.host_donation.specs.Calls.{donated, donateOf}
+use Rattle.host_guests.specs.Calls.{freeSlot, createOf, ran, runOf}
+use Rattle.host_removal.specs.Calls.{removed, removeOf}
 use Rattle.calls.specs.Step.{step}
 use Rattle.calls.specs.declared.call.Call.the-variants.{Create, Donate, Run, Remove, RegisterWrite, Hypercall}
 use Rattle.history.proofs.Seen.{own, look, lengths-hold, width-is}
@@ -38,60 +34,31 @@ use Rattle.history.proofs.WordsSound.{stateBy, WordsSound}
 use Rattle.history.proofs.SoundLaws.{pair-seen, granule-found, frame-found}
 use Rattle.history.proofs.SlotCalls.{free-row, row-undamaged}
 
-passed : {A : Type 0} (ts : Tests A) → Passes ts → firstRefusal ts ≡ none
-passed [] p = refl
-passed (t ∷ ts) p = rw (p .0) (passed ts (p .1))
-
-done : (ts : Tests _) (s : State) (r : Answered) → Passes ts → unlessRefused (firstRefusal ts) s r ≡ r
-done ts s r p = rw (passed ts p)
-
 module _ {F W : ℕ} {s : State} (i : WordsSound F W s) where
   pub does-create : (v : ℕ) → freeSlot (s .monitor) ≡ v → v < 8 → guestOf (s .monitor) v .live ≡ false
       → step Create s .left ≡ state (s .frames) (s .map) (withGuest (s .monitor) v newGuest)
   unfolding step createOf
-  does-create v e h dead =
-      rw e
-      (ap (λ (r : Answered). r .left)
-      (done (createTests (s .frames) (s .map) v) s (created v s) (lengths-hold (i .sized), (free-row i v (λ l. dead), (lt-ltb v 8 h, tt)))))
+  does-create v e h dead = rw (e, lengths-hold (i .sized), free-row i v (λ l. dead), lt-ltb v 8 h)
 
   pub does-donate : (v f g : ℕ) → guestOf (s .monitor) v .live ≡ true → f < F → g < W → own s f ≡ frame-word.Host → look W s v g ≡ map-word.Vacant
       → step (Donate v f g) s .left ≡ donated v f g s .left
   unfolding step donateOf
   does-donate v f g live h l host vacant =
-      let granule = granule-found i v g (live-slot (s .monitor) v live) l in
-      let frame = frame-found i f h in
-      ap (λ (r : Answered). r .left)
-      (done (donateTests (s .frames) (s .map) v f g (guestOf (s .monitor) v)) s (donated v f g s) (
-        lengths-hold (i .sized),
-        (
-          live,
-          (
-            rw (i .sized .frame-words) (lt-ltb f F h),
-            (
-              rw (width-is (i .sized)) (lt-ltb g W l),
-              (rw (granule, vacant), (rw (frame, host), (rw (frame, host), (rw (granule, vacant), tt)))),
-            ),
-          ),
-        ),
-      ))
+      let slot = live-slot (s .monitor) v live in
+      rw (lengths-hold (i .sized), live, i .sized .frame-words, lt-ltb f F h, width-is (i .sized), lt-ltb g W l, granule-found i v g slot l, vacant, frame-found i f h, host)
 
   pub does-run : (v : ℕ) → guestOf (s .monitor) v .live ≡ true → step (Run v) s .left ≡ ran v s .left
   unfolding step runOf
-  does-run v live = ap (λ (r : Answered). r .left) (done (runTests (guestOf (s .monitor) v)) s (ran v s) (live, tt))
+  does-run v live = rw live
 
   pub does-remove : (v : ℕ) → guestOf (s .monitor) v .live ≡ true → step (Remove v) s .left ≡ removed v s .left
   unfolding step removeOf
-  does-remove v live =
-      ap (λ (r : Answered). r .left)
-      (done (removeTests (s .frames) (s .map) v (guestOf (s .monitor) v)) s (removed v s)
-      (lengths-hold (i .sized), (live, (row-undamaged i v (live-slot (s .monitor) v live), tt))))
+  does-remove v live = rw (lengths-hold (i .sized), live, row-undamaged i v (live-slot (s .monitor) v live))
 
   -- VENDOR_HYP, register 2, written with 0
   pub does-write : (v : ℕ) → guestOf (s .monitor) v .live ≡ true → guestOf (s .monitor) v .run ≡ false → step (RegisterWrite v 2 0) s .left ≡ bitmapWritten v 2 0 s .left
   unfolding step registerWriteOf registerNumbered
-  does-write v live fresh =
-      ap (λ (r : Answered). r .left)
-      (done (writeTests (guestOf (s .monitor) v) (registerNumbered 2) 0) s (bitmapWritten v 2 0 s) (live, (refl, (refl, (rw fresh, tt)))))
+  does-write v live fresh = rw (live, fresh)
 
 -- registers of a call at granule g that asks for one granule
 abbrev pub asking : ℕ → ℕ → Registers

@@ -22,7 +22,7 @@ use Rattle.history.proofs.SoundLaws.{granule-found, frame-found, frame-
 use Rattle.history.proofs.Tied.{Tied, tied-named, tied-apart, FrameFree}
 use Rattle.history.proofs.Moves.{pair-put, frame-put}
 use Rattle.history.proofs.Held.{ownerAfter}
-use Rattle.history.proofs.Kept.{Kept, sure, tests-kept}
+use Rattle.history.proofs.Kept.{Kept, test, sure, tests-kept}
 use Rattle.history.proofs.Looks.{hosts-word, waiting-word, vacant-word, granule-undamaged, below-frames, below-width}
 
 -- a call about one frame, which says so in the log
@@ -37,29 +37,15 @@ module _ {F W : ℕ} {s : State} (i : WordsSound F W s) where
   pub keep-donate : (v f g : ℕ) → Kept F W s (Donate v f g) (donateOf v f g s)
   unfolding donateOf numbersOf own
   keep-donate v f g =
-      tests-kept i (Donate v f g) (donateTests (s .frames) (s .map) v f g (guestOf (s .monitor) v)) (donated v f g s) (
-        sure _ (lengths-hold (i .sized)),
-        λ a. (
-          λ q. (refl, refl),
-          λ live. (
-            λ q. (refl, refl),
-            λ hf. (
-              λ q. (refl, refl),
-              λ hg. (
-                sure _ (granule-undamaged i v g (live-slot (s .monitor) v live) (below-width i g hg)),
-                λ b. (
-                  sure _ (frame-sound i f (below-frames i f hf)),
-                  λ c. (
-                    λ q. (refl, refl),
-                    λ d.
-                        (λ q. (refl, refl), λ e. tt),
-                  ),
-                ),
-              ),
-            ),
-          ),
-        ),
-      )
+      tests-kept i (Donate v f g) (donateTests (s .frames) (s .map) v f g (guestOf (s .monitor) v)) (donated v f g s)
+      (test (sure _ (lengths-hold (i .sized))) λ a.
+      test (λ q. (refl, refl)) λ live.
+      test (λ q. (refl, refl)) λ hf.
+      test (λ q. (refl, refl)) λ hg.
+      test (sure _ (granule-undamaged i v g (live-slot (s .monitor) v live) (below-width i g hg))) λ b.
+      test (sure _ (frame-sound i f (below-frames i f hf))) λ c.
+      test (λ q. (refl, refl)) λ d.
+      test (λ q. (refl, refl)) λ e. tt)
       (λ p.
       let live = p .1 .0 in
       let slot = live-slot (s .monitor) v live in
@@ -73,25 +59,18 @@ module _ {F W : ℕ} {s : State} (i : WordsSound F W s) where
       let put = pair-put i v g f slot below inside old d e (tied-named v g f false) live .0 in
       record {
         sound = rw (width-is (i .sized)) (put .sound);
-        logged = λ k l x q.
-            one-logged s (donated v f g s .left) f (log.donated v g) (put .frame) (put .frames) k x q;
+        logged = λ k l x q. one-logged s (donated v f g s .left) f (log.donated v g) (put .frame) (put .frames) k x q;
         usual-verdict = refl;
       })
 
   pub keep-cleared : (f : ℕ) → Kept F W s (Cleared f) (clearedOf f s)
   unfolding clearedOf numbersOf
   keep-cleared f =
-      tests-kept i (Cleared f) (clearedTests (s .frames) (s .map) f) (handedBack f s) (
-        sure _ (lengths-hold (i .sized)),
-        λ a. (
-          λ q. (refl, refl),
-          λ hf. (
-            sure _ (frame-sound i f (below-frames i f hf)),
-            λ b.
-                (λ q. (refl, refl), λ c. tt),
-          ),
-        ),
-      )
+      tests-kept i (Cleared f) (clearedTests (s .frames) (s .map) f) (handedBack f s)
+      (test (sure _ (lengths-hold (i .sized))) λ a.
+      test (λ q. (refl, refl)) λ hf.
+      test (sure _ (frame-sound i f (below-frames i f hf))) λ b.
+      test (λ q. (refl, refl)) λ c. tt)
       (λ p.
       let inside = below-frames i f (p .1 .0) in
       let waits : own s f ≡ frame-word.Waiting = waiting-word (own s f) (rw (frame-found i f inside) at (p .1 .1 .1 .0)) in
@@ -99,8 +78,7 @@ module _ {F W : ℕ} {s : State} (i : WordsSound F W s) where
       let put = frame-put i f inside free frame-word.Host tt in
       record {
         sound = put .sound;
-        logged = λ k l x q.
-            one-logged s (handedBack f s .left) f log.cleared (put .frame) (put .frames) k x q;
+        logged = λ k l x q. one-logged s (handedBack f s .left) f log.cleared (put .frame) (put .frames) k x q;
         usual-verdict = refl;
       })
 
@@ -108,5 +86,5 @@ module _ {F W : ℕ} {s : State} (i : WordsSound F W s) where
   unfolding hostAccessOf numbersOf
   keep-access f =
       tests-kept i (Access f) (accessTests (s .frames) (s .map) f) (accessTold f s)
-      (sure _ (lengths-hold (i .sized)), λ a. (λ q. (refl, refl), λ hf. (sure _ (frame-sound i f (below-frames i f hf)), λ b. tt)))
+      (test (sure _ (lengths-hold (i .sized))) λ a. test (λ q. (refl, refl)) λ hf. test (sure _ (frame-sound i f (below-frames i f hf))) λ b. tt)
       (λ p. record { sound = i; logged = λ k l x q. q; usual-verdict = refl })

@@ -35,7 +35,7 @@ use Rattle.history.proofs.Seen.{never, own, look, lengths-hold}
 use Rattle.history.proofs.WordsSound.{stateBy, WordsSound}
 use Rattle.history.proofs.RecordMoves.{recorded-sound}
 use Rattle.history.proofs.RecordLaws.{enroll-sound, enroll-holds}
-use Rattle.history.proofs.Kept.{usual, Kept, sure, refused-kept, tests-kept}
+use Rattle.history.proofs.Kept.{usual, Kept, test, sure, refused-kept, tests-kept}
 use Rattle.history.proofs.Looks.{granule-undamaged, below-width}
 use Rattle.history.proofs.Asked.{after-asked}
 use Rattle.history.proofs.RangeCalls.{error-fine, change-kept, moved, unmoved}
@@ -89,9 +89,9 @@ module _ {F W : ℕ} {s : State} (i : WordsSound F W s) (v : ℕ) where
       let w = rowOf asked in
       let act = actOf v (r .r1) (w .error) (actionOf asked (r .r2)) s in
       tests-kept i (Hypercall v r) (callerTests (length (s .frames)) (length (s .map)) g) (unlessRefused (firstRefusal (rowTests w r g)) s act)
-      (sure _ (lengths-hold (i .sized)), λ a. (λ q. (refl, refl), λ b. (λ q. (refl, refl), λ c. tt)))
+      (test (sure _ (lengths-hold (i .sized))) λ a. test (λ q. (refl, refl)) λ b. test (λ q. (refl, refl)) λ c. tt)
       (λ p.
-      tests-kept i (Hypercall v r) (rowTests w r g) act (λ q. error-fine (w .error), λ b. (λ q. error-fine (w .error), λ c. tt))
+      tests-kept i (Hypercall v r) (rowTests w r g) act (test (λ q. error-fine (w .error)) λ b. test (λ q. error-fine (w .error)) λ c. tt)
       (λ q. function-kept i v r (p .1 .0) (p .1 .1 .0) asked refl (q .1 .0)))
 
 unbacked-usual : (a : ℕ) (g : Guest) → usual (numbersOf (unbacked a g)) ≡ true
@@ -126,5 +126,5 @@ module _ {F W : ℕ} {s : State} (i : WordsSound F W s) (v : ℕ) where
   keep-abort a =
       let g = guestOf (s .monitor) v in
       tests-kept i (Abort v a) (callerTests (length (s .frames)) (length (s .map)) g) (answered s (accessOf (s .frames) (s .map) v a g))
-      (sure _ (lengths-hold (i .sized)), λ b. (λ q. (refl, refl), λ c. (λ q. (refl, refl), λ d. tt)))
+      (test (sure _ (lengths-hold (i .sized))) λ b. test (λ q. (refl, refl)) λ c. test (λ q. (refl, refl)) λ d. tt)
       (λ p. record { sound = i; logged = λ k l x q. q; usual-verdict = access-usual a (live-slot (s .monitor) v (p .1 .0)) })

@@ -40,7 +40,7 @@ use Rattle.history.proofs.RecordMoves.{recorded-sound}
 use Rattle.history.proofs.RecordLaws.{new-sound, run-sound, run-holds, bitmap-flags, flags-hold, bitmap-sound}
 use Rattle.history.proofs.Removal.{owners-gone, gone-sound}
 use Rattle.history.proofs.Held.{heldThen, owner-changed}
-use Rattle.history.proofs.Kept.{usual, Kept, sure, tests-kept}
+use Rattle.history.proofs.Kept.{usual, Kept, test, sure, tests-kept}
 use Rattle.history.proofs.Looks.{granule-undamaged}
 
 -- a record that is not a guest's lets a granule hold nothing
@@ -115,7 +115,7 @@ module _ {F W : ℕ} {s : State} (i : WordsSound F W s) where
       let v = freeSlot (s .monitor) in
       let dead : v < 8 → guestOf (s .monitor) v .live ≡ false = λ h. free-dead (s .monitor) 8 0 (omega arith) in
       tests-kept i Create (createTests (s .frames) (s .map) v) (created v s)
-      (sure _ (lengths-hold (i .sized)), λ a. (sure _ (free-row v dead), λ b. (λ q. (refl, refl), λ c. tt)))
+      (test (sure _ (lengths-hold (i .sized))) λ a. test (sure _ (free-row v dead)) λ b. test (λ q. (refl, refl)) λ c. tt)
       (λ p.
       let h = ltb-true v 8 (p .1 .1 .0) in
       record {
@@ -128,7 +128,7 @@ module _ {F W : ℕ} {s : State} (i : WordsSound F W s) where
   unfolding runOf numbersOf own
   keep-run v =
       let g = guestOf (s .monitor) v in
-      tests-kept i (Run v) (runTests g) (ran v s) (λ q. (refl, refl), λ a. tt)
+      tests-kept i (Run v) (runTests g) (ran v s) (test (λ q. (refl, refl)) λ a. tt)
       (λ p. record {
         sound = recorded-sound i v (markRun g) (run-sound g (i .records v (live-slot (s .monitor) v (p .0))) (p .0)) (λ h l q. run-holds g (stateBy (look W s v h)) q);
         logged = λ k l x q. q;
@@ -139,7 +139,7 @@ module _ {F W : ℕ} {s : State} (i : WordsSound F W s) where
   unfolding removeOf numbersOf
   keep-remove v =
       tests-kept i (Remove v) (removeTests (s .frames) (s .map) v (guestOf (s .monitor) v)) (removed v s)
-      (sure _ (lengths-hold (i .sized)), λ a. (λ q. (refl, refl), λ live. (sure _ (row-undamaged v (live-slot (s .monitor) v live)), λ b. tt)))
+      (test (sure _ (lengths-hold (i .sized))) λ a. test (λ q. (refl, refl)) λ live. test (sure _ (row-undamaged v (live-slot (s .monitor) v live))) λ b. tt)
       (λ p.
       let slot = live-slot (s .monitor) v (p .1 .0) in
       record {
@@ -154,7 +154,7 @@ module _ {F W : ℕ} {s : State} (i : WordsSound F W s) where
   unfolding registerReadOf numbersOf
   keep-read v n =
       tests-kept i (RegisterRead v n) (readTests (guestOf (s .monitor) v) (registerNumbered n)) (bitmapTold v n s)
-      (λ q. (refl, refl), λ a. (λ q. (refl, refl), λ b. tt))
+      (test (λ q. (refl, refl)) λ a. test (λ q. (refl, refl)) λ b. tt)
       (λ p. record { sound = i; logged = λ k l x q. q; usual-verdict = refl })
 
   pub keep-write : (v n y : ℕ) → Kept F W s (RegisterWrite v n y) (registerWriteOf v n y s)
@@ -163,7 +163,7 @@ module _ {F W : ℕ} {s : State} (i : WordsSound F W s) where
       let g = guestOf (s .monitor) v in
       let r = registerNumbered n in
       tests-kept i (RegisterWrite v n y) (writeTests g r y) (bitmapWritten v n y s)
-      (λ q. (refl, refl), λ a. (λ q. (refl, refl), λ b. (λ q. (refl, refl), λ c. (λ q. (refl, refl), λ d. tt))))
+      (test (λ q. (refl, refl)) λ a. test (λ q. (refl, refl)) λ b. test (λ q. (refl, refl)) λ c. test (λ q. (refl, refl)) λ d. tt)
       (λ p. record {
         sound =
             recorded-sound i v (withBitmap r y g) (bitmap-sound r y g (i .records v (live-slot (s .monitor) v (p .0))) (p .0) (p .1 .1 .0))
