@@ -1,7 +1,7 @@
 -- Calls of which no test refuses, and the states that they leave.
 use mathlib.Core.Path.{_≡_, sym, ap, _∙_}
 use mathlib.Core.Bool.{true, false}
-use Prim.Native.Nat.{ℕ, suc, _+_, _*_, _%_, _<_}
+use Prim.Native.Nat.{ℕ, suc, _+_, _*_, _%_, _<_, _^_}
 use native.Mathlib.Omega.{arith}
 use borrow.Author.Tests.{lt-ltb, eq-eqb}
 use lib.ListN.{set}
@@ -29,6 +29,7 @@ use Rattle.host_guests.specs.Calls.{freeSlot, createOf, ran, runOf}
 use Rattle.host_removal.specs.Calls.{removed, removeOf}
 use Rattle.calls.specs.Step.{step}
 use Rattle.calls.specs.declared.call.Call.the-variants.{Create, Donate, Run, Remove, RegisterWrite, Hypercall}
+use Rattle.history.specs.History.{Fits}
 use Rattle.history.proofs.Seen.{own, look, lengths-hold, width-is}
 use Rattle.history.proofs.WordsSound.{stateBy, WordsSound}
 use Rattle.history.proofs.SoundLaws.{pair-seen, granule-found, frame-found}
@@ -63,6 +64,9 @@ module _ {F W : ℕ} {s : State} (i : WordsSound F W s) where
 -- registers of a call at granule g that asks for one granule
 abbrev pub asking : ℕ → ℕ → Registers
 asking number g = record { r0 = number; r1 = addressOf g; r2 = 0; r3 = 0 }
+
+pub asking-fits : (v number g : ℕ) → v < 8 → number < 2 ^ 64 → g < 2 ^ 52 → Fits (Hypercall v (asking number g))
+asking-fits v number g h n l = (omega arith, (n, (omega arith, (omega arith, (omega arith, tt)))))
 
 base-is : (g : ℕ) → isBase (addressOf g) ≡ true
 base-is g = eq-eqb (addressOf g % 4096) 0 (omega arith)

@@ -6,24 +6,32 @@ use mathlib.Core.List.{List, [], _∷_, _++_}
 use Prim.Native.Nat.{ℕ, zero, suc, _<_, _≤_}
 use native.Mathlib.Decide.{decLt}
 use native.Mathlib.Omega.{arith}
+use Rattle.runs.specs.Made.{Every}
 use Rattle.words.specs.declared.frame_word.FrameWord.{FrameWord}
 use Rattle.records.specs.State.{State}
 use Rattle.calls.specs.Step.{step, stateAfter, freshState}
 use Rattle.calls.specs.declared.call.Call.{Call}
+use Rattle.history.specs.History.{Fits}
 use Rattle.history.proofs.Seen.{own, at-or-not}
 use Rattle.history.proofs.WordsSound.{WordsSound}
 
 pub record Got (F W : ℕ) (s : State) : Type 0 where
   pub calls : List Call
+  pub fit : Every Fits calls
   pub leaves : stateAfter calls (freshState F W) ≡ s
 
 more : (cs : List Call) (c : Call) (s : State) → stateAfter (cs ++ (c ∷ [])) s ≡ step c (stateAfter cs s) .left
 more [] c s = refl
 more (d ∷ cs) c s = more cs c (step d s .left)
 
-pub got-next : {F W : ℕ} {s t : State} → Got F W s → (c : Call) → step c s .left ≡ t → Got F W t
-got-next {F} {W} g c e = record {
+every-more : (P : Call → Type 0) (cs : List Call) (c : Call) → Every P cs → P c → Every P (cs ++ (c ∷ []))
+every-more P [] c h p = (p, tt)
+every-more P (d ∷ cs) c h p = (h .0, every-more P cs c (h .1) p)
+
+pub got-next : {F W : ℕ} {s t : State} → Got F W s → (c : Call) → Fits c → step c s .left ≡ t → Got F W t
+got-next {F} {W} g c fits e = record {
   calls = g .calls ++ (c ∷ []);
+  fit = every-more Fits (g .calls) c (g .fit) fits;
   leaves = more (g .calls) c (freshState F W) ∙ ap (λ (s : State). step c s .left) (g .leaves) ∙ e;
 }
 

@@ -134,17 +134,20 @@ module _ (F W : ℕ) (frames-some : 1 ≤ F) (frames-few : F ≤ 16384) (width-s
       let second = i .says-back u c h f hu hh (rw (width-is (i .sized)) at q) .1 in
       (cc, cc)
 
+reachable-sound : (s : State) → Reachable s → Sound s
+reachable-sound s r = subst Sound (r .leaves) (words-sound (calls-sound (r .calls) (freshState (r .F) (r .W)) (fresh-sound (r .F) (r .W) (r .allowed))))
+
+sound-reachable : (s : State) → Sound s → Reachable s
+sound-reachable s k =
+    let i = sound-words k in
+    let F = length (s .frames) in
+    let W = widthOf (length (s .map)) in
+    let got = sound-got F W (i .sized .bounds) s i in
+    record { F = F; W = W; allowed = i .sized .bounds; calls = got .calls; fit = got .fit; leaves = got .leaves }
+
 -- The invariant is exact: it holds of the states that some calls leave, and of no others.
 pub reachable-exactly : (s : State) → (Reachable s → Sound s) × (Sound s → Reachable s)
-reachable-exactly s = (
-  λ r. subst Sound (r .leaves) (words-sound (calls-sound (r .calls) (freshState (r .F) (r .W)) (fresh-sound (r .F) (r .W) (r .allowed)))),
-  λ k.
-      let i = sound-words k in
-      let F = length (s .frames) in
-      let W = widthOf (length (s .map)) in
-      let got = sound-got F W (i .sized .bounds) s i in
-      record { F = F; W = W; allowed = i .sized .bounds; calls = got .calls; leaves = got .leaves },
-)
+reachable-exactly s = (reachable-sound s, sound-reachable s)
 
 -- Worked logs: the last change that each says of a frame, and what access then answers.
 pub history-cases : map found logs ≡ map expected logs

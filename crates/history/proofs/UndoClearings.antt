@@ -23,7 +23,7 @@ use Rattle.records.proofs.MonitorLaws.{guest-put, guest-fresh}
 use Rattle.host_guests.specs.Calls.{freeFrom, freeSlot}
 use Rattle.host_removal.specs.Calls.{removed}
 use Rattle.calls.specs.declared.call.Call.the-variants.{Create, Donate, Remove}
-use Rattle.history.proofs.Seen.{own, look, width-is, at-or-not}
+use Rattle.history.proofs.Seen.{own, look, width-is, at-or-not, at-most}
 use Rattle.history.proofs.WordsSound.{WordsSound}
 use Rattle.history.proofs.Tied.{tied-named, tied-apart, FrameFree}
 use Rattle.history.proofs.Moves.{FramePut, GranulePut, pair-put, frame-put}
@@ -151,9 +151,9 @@ module _ (F W : ℕ) where
     clearing-undone : Got F W unclaimed → Got F W s
     clearing-undone got =
         let j = unclaimed-put .sound in
-        let a = got-next got Create (does-create j 0 (first-free unclaimed dead) (omega arith) (ap (λ (x : Guest). x .live) (dead 0 (omega arith)))) in
-        let b = got-next {t = given} a (Donate 0 n 0) (does-donate joined-sound 0 n 0 (ap (λ (x : Guest). x .live) first) h wide joined-host joined-vacant ∙ rw (width-is (joined-sound .sized))) in
-        got-next b (Remove 0) (does-remove (given-put .0 .sound) 0 (ap (λ (x : Guest). x .live) first) ∙ gone-state)
+        let a = got-next got Create tt (does-create j 0 (first-free unclaimed dead) (omega arith) (ap (λ (x : Guest). x .live) (dead 0 (omega arith)))) in
+        let b = got-next {t = given} a (Donate 0 n 0) (omega arith, (omega (arith, at-most (i .sized)), (omega arith, tt))) (does-donate joined-sound 0 n 0 (ap (λ (x : Guest). x .live) first) h wide joined-host joined-vacant ∙ rw (width-is (joined-sound .sized))) in
+        got-next b (Remove 0) (omega arith, tt) (does-remove (given-put .0 .sound) 0 (ap (λ (x : Guest). x .live) first) ∙ gone-state)
 
   module _ (bounds : lengthsHold F (8 * W) ≡ true) where
     wide : 0 < W
@@ -163,6 +163,7 @@ module _ (F W : ℕ) where
     fresh-got : (s : State) → WordsSound F W s → AllDead s → ((f : ℕ) → f < F → isWaiting (own s f) ≡ false) → Got F W s
     fresh-got s i dead none = record {
       calls = [];
+      fit = tt;
       leaves =
           same-state (fresh-sound F W bounds) i
           (λ f l. fresh-own F W bounds f l ∙ sym (host-word (own s f) (dead-free s i dead f l) (none f l)))

@@ -59,7 +59,7 @@ module _ (F W : ℕ) (bounds : lengthsHold F (8 * W) ≡ true) where
       let dead : guestOf (before .monitor) n .live ≡ false = ap (λ (x : Guest). x .live) here in
       let free : freeSlot (before .monitor) ≡ n = lowest (before .monitor) n dead 8 0 (omega arith) (omega arith) (λ u a b.
       ap (λ (x : Guest). x .live) (there u (λ q. omega arith) ∙ k .new u (omega arith))) in
-      got-next got Create (does-create j n free slot dead ∙ rw (guest-back m n zeroGuest newGuest slot is-new))
+      got-next got Create tt (does-create j n free slot dead ∙ rw (guest-back m n zeroGuest newGuest slot is-new))
 
   pub new-got : (s : State) → WordsSound F W s → ((v : ℕ) → v < 8 → guestOf (s .monitor) v ≡ newGuest)
       → ((v g : ℕ) → v < 8 → g < W → look W s v g ≡ map-word.Vacant) → Got F W s

@@ -3,6 +3,7 @@ use mathlib.Core.Path.{_≡_, refl, sym, ap, _∙_}
 use mathlib.Core.Logic.{_≢_}
 use mathlib.Core.Bool.{Bool, true, false}
 use Prim.Native.Nat.{ℕ, _+_, _*_, _<_}
+use native.Mathlib.Omega.{arith}
 use lib.ListN.{set}
 use Rattle.words.specs.MapWord.{mapBits}
 use Rattle.words.specs.FrameWord.{frameBits}
@@ -16,7 +17,7 @@ use Rattle.records.specs.State.{State, state}
 use Rattle.records.specs.declared.guest.Guest.{Guest}
 use Rattle.calls.specs.declared.call.Call.the-variants.{Donate}
 use Rattle.history.specs.Sound.{mayHold}
-use Rattle.history.proofs.Seen.{never, own, look, width-is}
+use Rattle.history.proofs.Seen.{never, own, look, width-is, at-most}
 use Rattle.history.proofs.WordsSound.{stateBy, Says, WordsSound}
 use Rattle.history.proofs.Tied.{tied-named, tied-apart}
 use Rattle.history.proofs.Moves.{FramePut, GranulePut, pair-put}
@@ -71,7 +72,7 @@ module _ (F W : ℕ) (bounds : lengthsHold F (8 * W) ≡ true) where
     donation-undone : Got F W undonated → Got F W s
     donation-undone got =
         let put = undonated-put in
-        got-next got (Donate v n g)
+        got-next got (Donate v n g) (omega (arith, said .0), (omega (arith, at-most (i .sized)), (omega (arith, said .1, at-most (i .sized)), tt)))
         (does-donate (put .0 .sound) v n g live h (said .1) (put .0 .frame) (put .1 .granule)
         ∙ rw
         (width-is (put .0 .sound .sized), frame-back i n (frameBits frame-word.Host) (frame-word.Owned v false g) h e, map-back i v g (mapBits map-word.Vacant) (map-word.Frame false n) (said .0) (said .1) (said .2)))

@@ -17,11 +17,11 @@ use Rattle.records.specs.State.{State, state}
 use Rattle.records.specs.declared.guest.Guest.{Guest}
 use Rattle.calls.specs.declared.call.Call.the-variants.{Hypercall}
 use Rattle.history.specs.Sound.{SoundRecord, mayHold}
-use Rattle.history.proofs.Seen.{never, own, look, index-same, index-below}
+use Rattle.history.proofs.Seen.{never, own, look, index-same, index-below, at-most}
 use Rattle.history.proofs.WordsSound.{stateBy, WordsSound}
 use Rattle.history.proofs.Moves.{GranulePut, granule-put}
 use Rattle.history.proofs.SameState.{Placed, placed, map-back}
-use Rattle.history.proofs.Does.{asking, does-guard}
+use Rattle.history.proofs.Does.{asking, asking-fits, does-guard}
 use Rattle.history.proofs.Got.{Got, got-next}
 use Rattle.history.proofs.UndoRecords.{plain-got}
 
@@ -81,7 +81,7 @@ module _ (F W : ℕ) (bounds : lengthsHold F (8 * W) ≡ true) where
 
     guard-undone : Got F W unguarded → Got F W s
     guard-undone got =
-        got-next got (Hypercall v (asking 0xC6000007 g))
+        got-next got (Hypercall v (asking 0xC6000007 g)) (asking-fits v 0xC6000007 g slot (omega arith) (omega (arith, at-most (i .sized))))
         (does-guard (unguarded-put .sound) v (run-live (guestOf (s .monitor) v) (i .records v slot) has-run) has-run g below enrolled (unguarded-put .granule)
         ∙ rw (map-back i v g (mapBits map-word.Vacant) map-word.Guarded slot below e))
 

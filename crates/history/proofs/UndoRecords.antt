@@ -29,7 +29,7 @@ use Rattle.history.proofs.Removal.{owners-gone, look-gone, look-there, 
 use Rattle.history.proofs.Held.{heldThen}
 use Rattle.history.proofs.SlotCalls.{dead-vacant}
 use Rattle.history.proofs.SameState.{guest-same, guest-back, same-state}
-use Rattle.history.proofs.Does.{asking, does-run, does-remove, does-write, does-enroll}
+use Rattle.history.proofs.Does.{asking, asking-fits, does-run, does-remove, does-write, does-enroll}
 use Rattle.history.proofs.Got.{Got, got-next}
 use Rattle.history.proofs.UndoDonations.{all-new-got}
 
@@ -90,7 +90,7 @@ module _ (F W : ℕ) (s : State) (i : WordsSound F W s) (plain : Plain W s) (n :
   written-got : (x : ℕ) → x ≤ 1 → Got F W (having newGuest) → Got F W (having (written x))
   unfolding registerNumbered
   written-got zero h got =
-      got-next got (RegisterWrite n 2 0)
+      got-next got (RegisterWrite n 2 0) (omega arith, (omega arith, (omega arith, tt)))
       (does-write (having-sound newGuest new-sound refl) n (ap (λ (g : Guest). g .live) (guest-is newGuest)) (ap (λ (g : Guest). g .run) (guest-is newGuest))
       ∙ having-then (λ g. withBitmap VendorHyp 0 g) newGuest)
   written-got (suc zero) h got = got
@@ -101,14 +101,14 @@ module _ (F W : ℕ) (s : State) (i : WordsSound F W s) (plain : Plain W s) (n :
 
   started-got : (x : ℕ) → x ≤ 1 → (a : Bool) → Got F W (having (written x)) → Got F W (having (started x a))
   started-got x h true got =
-      got-next got (Run n)
+      got-next got (Run n) (omega arith, tt)
       (does-run (having-sound (written x) (written-sound x h) refl) n (ap (λ (g : Guest). g .live) (guest-is (written x))) ∙ having-then markRun (written x))
   started-got x h false got = got
 
   joined-got : (x : ℕ) → x ≤ 1 → (a b : Bool) → (b ≡ true → a ≡ true) → Got F W (having (started x a)) → Got F W (having (joined x a b))
   joined-got x h true true k got =
       let r = markRun (written x) in
-      got-next got (Hypercall n (asking 0xC6000006 0))
+      got-next got (Hypercall n (asking 0xC6000006 0)) (asking-fits n 0xC6000006 0 (omega arith) (omega arith) (omega arith))
       (does-enroll (having-sound r (run-sound (written x) (written-sound x h) refl) refl) n (ap (λ (g : Guest). g .live) (guest-is r)) (ap (λ (g : Guest). g .run) (guest-is r))
       ∙ having-then enroll r)
   joined-got x h false true k got = never (k refl)
@@ -156,7 +156,7 @@ module _ (F W : ℕ) (s : State) (i : WordsSound F W s) (plain : Plain W s) (n :
         (λ v l. ap (λ (x : Monitor). guestOf x v) (guest-back (s .monitor) n newGuest zeroGuest slot none))
 
     dead-got : Got F W (having newGuest) → Got F W s
-    dead-got got = got-next got (Remove n) (does-remove (having-sound newGuest new-sound refl) n (ap (λ (g : Guest). g .live) (guest-is newGuest)) ∙ removed-is)
+    dead-got got = got-next got (Remove n) (omega arith, tt) (does-remove (having-sound newGuest new-sound refl) n (ap (λ (g : Guest). g .live) (guest-is newGuest)) ∙ removed-is)
 
   slot-got : (b : Bool) → guestOf (s .monitor) n .live ≡ b → Got F W (having newGuest) → Got F W s
   slot-got true e got = live-got e got

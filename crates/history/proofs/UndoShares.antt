@@ -2,6 +2,7 @@
 use mathlib.Core.Path.{_≡_, refl, _∙_}
 use mathlib.Core.Bool.{true, false}
 use Prim.Native.Nat.{ℕ, _+_, _*_, _<_}
+use native.Mathlib.Omega.{arith}
 use lib.ListN.{set}
 use Rattle.words.specs.MapWord.{mapBits}
 use Rattle.words.specs.FrameWord.{frameBits}
@@ -12,12 +13,12 @@ use Rattle.tables.specs.Length.{lengthsHold}
 use Rattle.records.specs.Monitor.{guestOf}
 use Rattle.records.specs.State.{State, state}
 use Rattle.calls.specs.declared.call.Call.the-variants.{Hypercall}
-use Rattle.history.proofs.Seen.{never, own}
+use Rattle.history.proofs.Seen.{never, own, at-most}
 use Rattle.history.proofs.WordsSound.{Says, WordsSound}
 use Rattle.history.proofs.Tied.{tied-named}
 use Rattle.history.proofs.Moves.{FramePut, GranulePut, pair-put}
 use Rattle.history.proofs.SameState.{frame-back, map-back}
-use Rattle.history.proofs.Does.{asking, does-share}
+use Rattle.history.proofs.Does.{asking, asking-fits, does-share}
 use Rattle.history.proofs.Got.{Got, got-next, Undone, frames-got}
 use Rattle.history.proofs.UndoGuards.{run-live, isShared, unshared-got}
 
@@ -45,7 +46,7 @@ module _ (F W : ℕ) (bounds : lengthsHold F (8 * W) ≡ true) where
 
     share-undone : Got F W unshared → Got F W s
     share-undone got =
-        got-next got (Hypercall v (asking 0xC6000003 g))
+        got-next got (Hypercall v (asking 0xC6000003 g)) (asking-fits v 0xC6000003 g (said .0) (omega arith) (omega (arith, said .1, at-most (i .sized))))
         (does-share (unshared-put .0 .sound) v live has-run g (said .1) n (unshared-put .1 .granule)
         ∙ rw
         (frame-back i n (frameBits (frame-word.Owned v false g)) (frame-word.Owned v true g) h e, map-back i v g (mapBits (map-word.Frame false n)) (map-word.Frame true n) (said .0) (said .1) (said .2)))
