@@ -29,7 +29,7 @@ use Rattle.host_guests.specs.Calls.{freeSlot, createOf, ran, runOf}
 use Rattle.host_removal.specs.Calls.{removed, removeOf}
 use Rattle.calls.specs.Step.{step}
 use Rattle.calls.specs.declared.call.Call.the-variants.{Create, Donate, Run, Remove, RegisterWrite, Hypercall}
-use Rattle.history.specs.History.{Fits}
+use Rattle.history.specs.Reachable.{Fits}
 use Rattle.history.proofs.Seen.{own, look, lengths-hold, width-is}
 use Rattle.history.proofs.WordsSound.{stateBy, WordsSound}
 use Rattle.history.proofs.SoundLaws.{pair-seen, granule-found, frame-found}

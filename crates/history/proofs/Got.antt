@@ -11,7 +11,7 @@ use Rattle.words.specs.declared.frame_word.FrameWord.{FrameWord}
 use Rattle.records.specs.State.{State}
 use Rattle.calls.specs.Step.{step, stateAfter, freshState}
 use Rattle.calls.specs.declared.call.Call.{Call}
-use Rattle.history.specs.History.{Fits}
+use Rattle.history.specs.Reachable.{Fits}
 use Rattle.history.proofs.Seen.{own, at-or-not}
 use Rattle.history.proofs.WordsSound.{WordsSound}
 

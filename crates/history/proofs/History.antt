@@ -35,7 +35,8 @@ use Rattle.calls.specs.Step.{step, stateAfter, freshState}
 use Rattle.calls.specs.declared.call.Call.{Call}
 use Rattle.calls.specs.declared.call.Call.the-variants.{Access}
 use Rattle.history.specs.Log.{FrameChange, neverDonated, donated, shared, unshared, relinquished, ownerRemoved, cleared, openAfter, lastChange, afterHypercall}
-use Rattle.history.specs.History.{logOf, privateOrWaiting, Reachable}
+use Rattle.history.specs.History.{logOf, privateOrWaiting}
+use Rattle.history.specs.Reachable.{Reachable}
 use Rattle.history.specs.Sound.{Sound}
 use Rattle.history.specs.Cases.{logs, found, expected}
 use Rattle.history.proofs.Seen.{own, look, lengths-hold, width-is}

@@ -1,4 +1,5 @@
 pub mod Log
 pub mod History
 pub mod Sound
+pub mod Reachable
 pub mod Cases
