@@ -73,7 +73,7 @@ Refusals [] = Unit {0}
 Refusals (t ∷ ts) = (t .0 ≡ false → Fine (t .1)) × (t .0 ≡ true → Refusals ts)
 
 -- one test, with what its refusal is, and those after it
-pub test : {A B : Type 0} → A → (B → A × B)
+pub test : {A B : Type 0} → A → B → A × B
 test a b = (a, b)
 
 -- a test that soundness passes
