@@ -1,0 +1,10 @@
+// The guest records as 48 words that a caller lends, and an answer as five.
+// It rests on records. It makes no call and knows no table.
+mod decoding;
+mod encoding;
+mod replies;
+
+pub use decoding::RECORD_WORDS;
+pub use decoding::monitor_in;
+pub use replies::put_answer;
+pub use replies::put_reply;
