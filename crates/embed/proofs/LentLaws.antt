@@ -1,0 +1,32 @@
+-- A call made on the records that words say, with its record and its answer put back as words, is the call on what is lent.
+use mathlib.Core.Path.{_≡_, refl}
+use mathlib.Core.List.{List}
+use Prim.Native.Nat.{ℕ}
+use Rattle.records.specs.Answer.{numbersOf}
+use Rattle.records.specs.Monitor.{guestOf, withGuest}
+use Rattle.records.specs.State.{State, state, Answered, answered}
+use Rattle.records.specs.declared.monitor.Monitor.{Monitor}
+use Rattle.records.specs.declared.answer.Answer.{Answer}
+use Rattle.record_words.specs.Words.{monitorIn, wordsAfter, answerWords}
+use Rattle.record_words.proofs.WordLaws.{records-kept}
+use Rattle.embed.specs.Lent.{lent, lentAfter}
+use Rattle.embed.proofs.OneRecord.{OneRecord}
+
+module _ (call : State → Answered) (w f m : List ℕ) (b : Monitor) (read : b ≡ monitorIn w)
+    (f′ m′ : List ℕ) (r : Monitor) (x : Answer) (does : answered (state f′ m′ r) x ≡ call (state f m b))
+    (a′ : List ℕ) (told : a′ ≡ answerWords (numbersOf x))
+  where
+    -- no record changed
+    pub lent-kept : call (state f m (monitorIn w)) .left .monitor ≡ monitorIn w → lent w f′ m′ a′ ≡ lentAfter call w f m
+    unfolding lentAfter
+    lent-kept same = let done = rw read at does in rw (same, records-kept w, ← done, told)
+
+    -- the record of slot v may have changed
+    pub lent-put : (v : ℕ) → OneRecord (monitorIn w) v (call (state f m (monitorIn w)) .left .monitor)
+        → (w′ : List ℕ) → w′ ≡ wordsAfter w (withGuest (monitorIn w) v (guestOf r v))
+        → lent w′ f′ m′ a′ ≡ lentAfter call w f m
+    unfolding lentAfter
+    lent-put v one w′ put =
+        let done = rw read at does in
+        let back : withGuest (monitorIn w) v (guestOf r v) ≡ r = rw (← done) at one in
+        rw (put, told, back, ← done)

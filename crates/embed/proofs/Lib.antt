@@ -1,0 +1,3 @@
+pub mod OneRecord
+pub mod LentLaws
+pub mod PartLaws

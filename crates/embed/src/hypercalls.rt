@@ -1,0 +1,49 @@
+ghost use mathlib.Core.Path.{_≡_};
+ghost use Rattle.guest.specs.Calls.{hypercallOf, abortOf};
+ghost use Rattle.embed.specs.Lent.{lent, lentAfter, registers};
+use functions::Registers;
+use guest::abort;
+use guest::hypercall;
+use record_words::RECORD_WORDS;
+use record_words::monitor_in;
+use record_words::put_answer;
+use record_words::put_reply;
+
+// A hypercall of the guest in a slot, with R0 to R3.
+#[no_mangle]
+pub extern "C" fn clundip_hypercall(
+    records: &mut [u64; RECORD_WORDS],
+    frames: &mut [u32],
+    map: &mut [u32],
+    slot: u64,
+    r0: u64,
+    r1: u64,
+    r2: u64,
+    r3: u64,
+    answer: &mut [u64; 5],
+)
+    ensures { λ _. ⌜ lent (now (records .exit)) (now (frames .exit)) (now (map .exit)) (now (answer .exit))
+        ≡ lentAfter (hypercallOf slot (registers r0 r1 r2 r3)) (now (records .entry)) (now (frames .entry)) (now (map .entry)) ⌝ }
+{
+    let registers = Registers { r0, r1, r2, r3 };
+    let reply = hypercall(monitor_in(records), frames, map, slot, registers);
+    put_reply(records, slot, reply, answer);
+}
+
+// An access of the guest in a slot that found no page.
+#[no_mangle]
+pub extern "C" fn clundip_abort(
+    records: &[u64; RECORD_WORDS],
+    frames: &[u32],
+    map: &[u32],
+    slot: u64,
+    ipa: u64,
+    answer: &mut [u64; 5],
+)
+    ensures { λ _. ⌜ lent (now (records .entry)) (now (frames .entry)) (now (map .entry)) (now (answer .exit))
+        ≡ lentAfter (abortOf slot ipa) (now (records .entry)) (now (frames .entry)) (now (map .entry)) ⌝ }
+{
+    let reply = abort(monitor_in(records), frames, map, slot, ipa);
+    let told = reply.answer;
+    put_answer(answer, told);
+}

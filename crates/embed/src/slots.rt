@@ -1,0 +1,85 @@
+ghost use mathlib.Core.Path.{_≡_};
+ghost use mathlib.Core.List.{List};
+ghost use Prim.Native.Nat.{ℕ};
+ghost use Rattle.records.specs.Answer.{numbersOf};
+ghost use Rattle.record_words.specs.Words.{monitorIn, answerWords};
+ghost use Rattle.host_guests.specs.Calls.{createOf, runOf, showOf};
+ghost use Rattle.host_removal.specs.Calls.{removeOf};
+ghost use Rattle.embed.specs.Lent.{lent, lentAfter, partWords};
+use host_guests::create;
+use host_guests::run;
+use host_guests::show;
+use host_guests::show_verdict;
+use host_removal::remove;
+use record_words::RECORD_WORDS;
+use record_words::monitor_in;
+use record_words::put_answer;
+use record_words::put_reply;
+use tables::row_bounds;
+
+// A guest is created in the lowest slot that is not live.
+#[no_mangle]
+pub extern "C" fn clundip_create(
+    records: &mut [u64; RECORD_WORDS],
+    frames: &[u32],
+    map: &[u32],
+    answer: &mut [u64; 5],
+)
+    ensures { λ _. ⌜ lent (now (records .exit)) (now (frames .entry)) (now (map .entry)) (now (answer .exit))
+        ≡ lentAfter createOf (now (records .entry)) (now (frames .entry)) (now (map .entry)) ⌝ }
+{
+    let reply = create(monitor_in(records), frames, map);
+    let told = reply.answer;
+    let numbers = told.numbers();
+    put_reply(records, numbers.v0, reply, answer);
+}
+
+// The guest in a slot is run.
+#[no_mangle]
+pub extern "C" fn clundip_run(records: &mut [u64; RECORD_WORDS], slot: u64, answer: &mut [u64; 5])
+    ensures { λ _. ⌜ ((frames map : List ℕ) → lent (now (records .exit)) frames map (now (answer .exit))
+        ≡ lentAfter (runOf slot) (now (records .entry)) frames map) ⌝ }
+{
+    let reply = run(monitor_in(records), slot);
+    put_reply(records, slot, reply, answer);
+}
+
+// The guest in a slot is removed.
+#[no_mangle]
+pub extern "C" fn clundip_remove(
+    records: &mut [u64; RECORD_WORDS],
+    frames: &mut [u32],
+    map: &mut [u32],
+    slot: u64,
+    answer: &mut [u64; 5],
+)
+    ensures { λ _. ⌜ lent (now (records .exit)) (now (frames .exit)) (now (map .exit)) (now (answer .exit))
+        ≡ lentAfter (removeOf slot) (now (records .entry)) (now (frames .entry)) (now (map .entry)) ⌝ }
+{
+    let reply = remove(monitor_in(records), frames, map, slot);
+    put_reply(records, slot, reply, answer);
+}
+
+// The row of the guest in a slot: where it begins in the map table, and how many words it has.
+#[no_mangle]
+pub extern "C" fn clundip_show(
+    records: &[u64; RECORD_WORDS],
+    map: &[u32],
+    slot: u64,
+    part: &mut [u64; 2],
+    answer: &mut [u64; 5],
+)
+    ensures { λ _. ⌜ now (answer .exit) ≡ answerWords (numbersOf (showOf slot (monitorIn (now (records .entry))) (now (map .entry)) .answer)) ⌝ }
+    ensures { λ _. ⌜ now (part .exit) ≡ partWords slot (monitorIn (now (records .entry))) (now (map .entry)) ⌝ }
+{
+    let monitor = monitor_in(records);
+    let row = show(monitor, map, slot);
+    let words = row.len();
+    let bounds = row_bounds(map.len(), slot);
+    put_answer(answer, show_verdict(monitor, map, slot));
+    if words == 0 {
+        *part = [0, 0];
+    } else {
+        *part = [bounds.start as u64, words as u64];
+    }
+}
