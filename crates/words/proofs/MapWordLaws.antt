@@ -1,12 +1,13 @@
 -- A map word built and taken apart is what it was built of; one taken apart and not damaged is built again.
 use mathlib.Core.Path.{_≡_, refl, sym}
 use mathlib.Core.Bool.{Bool, true, false, cond, Bool·beq}
+use mathlib.Core.Logic.{_≢_}
 use Prim.Native.Nat.{ℕ, _+_, _*_, _/_, _%_, _<_, _≤_, _^_}
 use native.Mathlib.Omega.{arith}
 use lib.Bits.{bitOr}
 use lib.Dec.{eqb}
 use mir.Val.{boolByte}
-use borrow.Author.Tests.{eq-eqb, ne-eqb, eqb-true}
+use borrow.Author.Tests.{eq-eqb, ne-eqb, eqb-true, eqb-false}
 use Rattle.words.specs.MapWord.{mapBits, mapWordOf, namesFrame}
 use Rattle.words.specs.declared.map_word.MapWord.{MapWord}
 use Rattle.words.specs.declared.map_word.MapWord.the-variants.{Vacant, Frame, Guarded, Damaged}
@@ -76,6 +77,23 @@ pub names-frame-built : (s : Bool) (f : ℕ) → f < 2 ^ 16 → (w : ℕ) → na
 names-frame-built s f h =
     by-built mapBits mapWordOf (namesFrame s f) (Frame s f) (map-decode-encode (Frame s f) h) (named-itself s f) (named-frame s f)
     (λ w e. map-encode-decode w (λ d. let z : _≡_ {A = ℕ} 0 1 = cc in omega arith))
+
+-- a word of kind 1 or 2 is a frame's, unless a bit between kind and frame is set
+pub frame-said : (w : ℕ) → w / 2 ^ 30 ≢ 0 → w / 2 ^ 30 < 3 → w / 2 ^ 16 % 2 ^ 14 ≡ 0 → Frame (eqb (w / 2 ^ 30) 2) (w % 2 ^ 16) ≡ mapWordOf w
+unfolding mapWordOf
+frame-said w some few none = go (eqb (w / 2 ^ 30) 2) refl
+  where
+    go : (b : Bool) → eqb (w / 2 ^ 30) 2 ≡ b → Frame b (w % 2 ^ 16) ≡ mapWordOf w
+    go true e =
+        let kind = eqb-true (w / 2 ^ 30) 2 e in
+        rw (ne-eqb w 0 (λ z. omega arith), ne-eqb (w / 2 ^ 16) 0x4000 (λ z. omega arith), eq-eqb (w / 2 ^ 16) 0x8000 (omega arith))
+    go false e =
+        let kind = eqb-false (w / 2 ^ 30) 2 e in
+        rw (ne-eqb w 0 (λ z. omega arith), eq-eqb (w / 2 ^ 16) 0x4000 (omega arith))
+
+pub damaged-said : (w : ℕ) → w ≢ 0 → (w / 2 ^ 16 ≡ 0x4000 → ⊥) → (w / 2 ^ 16 ≡ 0x8000 → ⊥) → w ≢ 0xC0000000 → Damaged ≡ mapWordOf w
+unfolding mapWordOf
+damaged-said w a b c d = rw (ne-eqb w 0 a, ne-eqb (w / 2 ^ 16) 0x4000 b, ne-eqb (w / 2 ^ 16) 0x8000 c, ne-eqb w 0xC0000000 d)
 
 -- what a word says is what a word has room for
 pub map-fits : (w : ℕ) → MapFits (mapWordOf w)

@@ -20,21 +20,26 @@ impl MapWord {
     pub fn of(word: u32) -> MapWord
         ensures { λ r. ⌜ r ≡ mapWordOf word ⌝ }
     {
-        let upper = word >> 16;
+        let kind = word >> 30;
+        let between = (word >> 16) & 0x3FFF;
         let frame = low_half(word);
-        match upper {
-            0x4000 => MapWord::Frame {
-                shared: false,
-                frame,
-            },
-            0x8000 => MapWord::Frame {
-                shared: true,
-                frame,
-            },
-            _ => {
+        match kind {
+            0 => {
                 if word == MapWord::VACANT {
                     return MapWord::Vacant;
                 }
+                MapWord::Damaged
+            }
+            1..=2 => {
+                if between == 0 {
+                    return MapWord::Frame {
+                        shared: kind == 2,
+                        frame,
+                    };
+                }
+                MapWord::Damaged
+            }
+            3..=0xFFFF_FFFF => {
                 if word == MapWord::GUARDED {
                     return MapWord::Guarded;
                 }
