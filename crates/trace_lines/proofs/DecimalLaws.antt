@@ -30,6 +30,10 @@ pub decimal-short : (n : ℕ) → length (decimal n) ≤ 20
 unfolding decimal
 decimal-short n = numeral-short 20 n
 
+pub decimal-digit : (n : ℕ) → n < 10 → decimal n ≡ digit n ∷ []
+unfolding decimal numeral
+decimal-digit n h = rw (lt-ltb n 10 h)
+
 -- a cell takes at most 21 bytes
 pub cell-short : (x e : ℕ) → length (cell x e) ≤ 21
 cell-short x e = omega (arith, length-append (decimal x) (e ∷ []), decimal-short x)
