@@ -17,14 +17,14 @@ use Rattle.tables.specs.Pair.{granuleState}
 use Rattle.tables.specs.declared.pairs.GranuleState.{GranuleState}
 use Rattle.tables.proofs.RowLaws.{in-row, off-row}
 use Rattle.tables.proofs.PairLaws.{granule-in-row}
-use Rattle.records.specs.Monitor.{guestOf}
-use Rattle.records.specs.State.{State, Answered, answered}
+use Rattle.records.specs.Monitor.{guestOf, withGuest}
+use Rattle.records.specs.State.{State, state, Answered, answered}
 use Rattle.records.specs.Tests.{firstRefusal, refusalBy}
 use Rattle.records.specs.declared.guest.Guest.{Guest}
 use Rattle.records.specs.declared.monitor.Monitor.{Monitor}
 use Rattle.records.specs.declared.answer.Answer.{Answer}
 use Rattle.records.specs.declared.answer.Answer.the-variants.{BadLength, NoGuest, NeverRun}
-use Rattle.records.proofs.MonitorLaws.{live-slot}
+use Rattle.records.proofs.MonitorLaws.{live-slot, put-own}
 use Rattle.records.proofs.TestLaws.{through}
 use Rattle.granules.specs.Step.{Refusal}
 use Rattle.functions.specs.Function.{askedBy}
@@ -45,6 +45,11 @@ caller-slot f n m v h =
     let run = cond (g .run) none (some NeverRun) in
     let live = cond (g .live) run (some NoGuest) in
     live-slot m v (through (g .live) run NoGuest (through (lengthsHold f n) live BadLength h .1) .0)
+
+-- a refused call leaves the record that it was called with
+pub as-found : (v : ℕ) (s : State) {g : Guest} → g ≡ guestOf (s .monitor) v → {a : Answer} {done : Answered} → answered s a ≡ done
+    → answered (state (s .frames) (s .map) (withGuest (s .monitor) v g)) a ≡ done
+as-found v s e h = rw (e, put-own (s .monitor) v) h
 
 -- a call of slot v whose record is g, by the admission that verdicts 1 to 3 gave it
 module _ (v : ℕ) (s : State) (g : Guest) (e : g ≡ guestOf (s .monitor) v) (x : Admission)

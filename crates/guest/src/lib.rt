@@ -7,4 +7,6 @@ mod hypercalls;
 mod work;
 
 pub use aborts::abort;
+pub use hypercalls::Served;
 pub use hypercalls::hypercall;
+pub use hypercalls::serve;

@@ -22,9 +22,8 @@ pub(crate) fn change_row(
     count: u64,
     operation: Operation,
 ) -> Progress
-    requires { ⌜ slot < 8 ⌝ }
-    ensures { λ r. ⌜ run (tableStep operation slot) (min rangeLimit count) (place (now (map .entry)) (now (frames .entry)) (granuleOf base))
-        ≡ ended (r .done) (place (now (map .exit)) (now (frames .exit)) (granuleOf base + r .done)) (stopBy (r .outcome)) ⌝ }
+    ensures { λ r. ⌜ (slot < 8 → run (tableStep operation slot) (min rangeLimit count) (place (now (map .entry)) (now (frames .entry)) (granuleOf base))
+        ≡ ended (r .done) (place (now (map .exit)) (now (frames .exit)) (granuleOf base + r .done)) (stopBy (r .outcome))) ⌝ }
 {
     let bounds = row_bounds(map.len(), slot);
     let start = bounds.start;

@@ -7,7 +7,7 @@ use native.Mathlib.Decide.{decLt}
 use native.Mathlib.Omega.{arith}
 use borrow.Author.Tests.{lt-ltb, le-ltb}
 use lib.ListN.{length, length-set, getD-replicate, List·getD-eq-default}
-use lib.Seq.{getD-set-same, getD-set-other, set-set}
+use lib.Seq.{getD-set-same, getD-set-other, set-getD, set-out, set-set}
 use Rattle.records.specs.Monitor.{zeroGuest, fresh, guestOf, withGuest}
 use Rattle.records.specs.declared.guest.Guest.{Guest}
 use Rattle.records.specs.declared.monitor.Monitor.{Monitor}
@@ -63,6 +63,25 @@ guest-put-live m v g e = go (decLt v (length (m .guests)))
         let dead : guestOf m v .live ≡ false = rw (lt-ltb v 8 slot, List·getD-eq-default (m .guests) zeroGuest {n = v} (omega arith)) in
         let z : _≡_ {A = ℕ} 0 1 = cc in
         absurd (omega arith)
+
+-- a record put in where it is already
+pub put-own : (m : Monitor) (v : ℕ) → withGuest m v (guestOf m v) ≡ m
+unfolding guestOf withGuest
+put-own m v = go (decLt v 8)
+  where
+    go : Dec (v < 8) → withGuest m v (guestOf m v) ≡ m
+    go (yes h) = rw (lt-ltb v 8 h, set-getD (m .guests) v zeroGuest)
+    go (no h) = rw (le-ltb v 8 (omega arith))
+
+-- what was put in is put in again
+pub put-read : (m : Monitor) (v : ℕ) (g : Guest) → withGuest m v (guestOf (withGuest m v g) v) ≡ withGuest m v g
+unfolding guestOf withGuest
+put-read m v g = go (decLt v 8) (decLt v (length (m .guests)))
+  where
+    go : Dec (v < 8) → Dec (v < length (m .guests)) → withGuest m v (guestOf (withGuest m v g) v) ≡ withGuest m v g
+    go (yes h) (yes l) = rw (lt-ltb v 8 h, getD-set-same (m .guests) v g zeroGuest l)
+    go (yes h) (no l) = rw (lt-ltb v 8 h, set-out (m .guests) v g (omega arith), set-getD (m .guests) v zeroGuest)
+    go (no h) l = rw (le-ltb v 8 (omega arith))
 
 pub put-again : (m : Monitor) (v : ℕ) (a b : Guest) → withGuest (withGuest m v a) v b ≡ withGuest m v b
 unfolding withGuest

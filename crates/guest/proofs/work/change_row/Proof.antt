@@ -36,9 +36,9 @@ same-length-2 : tie.Need-same-length-2
 same-length-2 c = search needs
 
 returns : tie.Need-returns
-returns c =
+returns c = λ h.
     rw (← (c .before .before .before .before .before .holding .ensures))
-    (lent (c .before .before .before .before .before .before .before .before .before .before .before .args .operation) _ (min rangeLimit (c .before .before .before .before .before .before .before .before .before .before .before .args .count)) _ (c .before .before .before .before .before .before .before .before .before .before .before .args .frames .now) (c .before .before .before .before .before .holding .result .0) _ (c .before .before .before .before .before .before .before .before .before .before .before .pre) (c .before .before .before .before .before .before .before .before .row-bounds .ensures) _ _ _ _ _ (c .before .before .before .before .change-range .ensures))
+    (lent (c .before .before .before .before .before .before .before .before .before .before .before .args .operation) _ (min rangeLimit (c .before .before .before .before .before .before .before .before .before .before .before .args .count)) _ (c .before .before .before .before .before .before .before .before .before .before .before .args .frames .now) (c .before .before .before .before .before .holding .result .0) _ h (c .before .before .before .before .before .before .before .before .row-bounds .ensures) _ _ _ _ _ (c .before .before .before .before .change-range .ensures))
 
 pub change-row-spec : {M : Type 1} → statement M
 change-row-spec =
