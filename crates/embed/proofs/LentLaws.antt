@@ -1,5 +1,5 @@
 -- A call made on the records that words say, with its record and its answer put back as words, is the call on what is lent.
-use mathlib.Core.Path.{_≡_, refl}
+use mathlib.Core.Path.{_≡_, sym}
 use mathlib.Core.List.{List}
 use Prim.Native.Nat.{ℕ}
 use Rattle.records.specs.Answer.{numbersOf}
@@ -16,17 +16,23 @@ module _ (call : State → Answered) (w f m : List ℕ) (b : Monitor) (read : b 
     (f′ m′ : List ℕ) (r : Monitor) (x : Answer) (does : answered (state f′ m′ r) x ≡ call (state f m b))
     (a′ : List ℕ) (told : a′ ≡ answerWords (numbersOf x))
   where
+    done : answered (state f′ m′ r) x ≡ call (state f m (monitorIn w))
+    done = rw read at does
+
+    pub lent-done : (w′ : List ℕ) → w′ ≡ wordsAfter w r → lent w′ f′ m′ a′ ≡ lentAfter call w f m
+    unfolding lentAfter
+    lent-done w′ put = rw (put, told, ← done)
+
     -- no record changed
     pub lent-kept : call (state f m (monitorIn w)) .left .monitor ≡ monitorIn w → lent w f′ m′ a′ ≡ lentAfter call w f m
-    unfolding lentAfter
-    lent-kept same = let done = rw read at does in rw (same, records-kept w, ← done, told)
+    lent-kept same =
+        let back : r ≡ monitorIn w = rw (← done) at same in
+        lent-done w (rw back (sym (records-kept w)))
 
     -- the record of slot v may have changed
     pub lent-put : (v : ℕ) → OneRecord (monitorIn w) v (call (state f m (monitorIn w)) .left .monitor)
         → (w′ : List ℕ) → w′ ≡ wordsAfter w (withGuest (monitorIn w) v (guestOf r v))
         → lent w′ f′ m′ a′ ≡ lentAfter call w f m
-    unfolding lentAfter
     lent-put v one w′ put =
-        let done = rw read at does in
         let back : withGuest (monitorIn w) v (guestOf r v) ≡ r = rw (← done) at one in
-        rw (put, told, back, ← done)
+        lent-done w′ (rw back at put)

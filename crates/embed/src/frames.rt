@@ -25,8 +25,8 @@ pub extern "C" fn clundip_donate(
     ensures { λ _. ⌜ lent (now (records .entry)) (now (frames .exit)) (now (map .exit)) (now (answer .exit))
         ≡ lentAfter (donateOf slot frame granule) (now (records .entry)) (now (frames .entry)) (now (map .entry)) ⌝ }
 {
-    let reply = donate(monitor_in(records), frames, map, slot, frame, granule);
-    let told = reply.answer;
+    let given = donate(monitor_in(records), frames, map, slot, frame, granule);
+    let told = given.answer;
     put_answer(answer, told);
 }
 

@@ -3,11 +3,12 @@ ghost use Rattle.guest.specs.Calls.{hypercallOf, abortOf};
 ghost use Rattle.embed.specs.Lent.{lent, lentAfter, registers};
 use functions::Registers;
 use guest::abort;
-use guest::hypercall;
+use guest::serve;
 use record_words::RECORD_WORDS;
+use record_words::guest_in;
 use record_words::monitor_in;
 use record_words::put_answer;
-use record_words::put_reply;
+use record_words::put_record;
 
 // A hypercall of the guest in a slot, with R0 to R3.
 #[no_mangle]
@@ -26,8 +27,10 @@ pub extern "C" fn clundip_hypercall(
         ≡ lentAfter (hypercallOf slot (registers r0 r1 r2 r3)) (now (records .entry)) (now (frames .entry)) (now (map .entry)) ⌝ }
 {
     let registers = Registers { r0, r1, r2, r3 };
-    let reply = hypercall(monitor_in(records), frames, map, slot, registers);
-    put_reply(records, slot, reply, answer);
+    let served = serve(guest_in(records, slot), frames, map, slot, registers);
+    let told = served.answer;
+    put_record(records, slot, served.guest);
+    put_answer(answer, told);
 }
 
 // An access of the guest in a slot that found no page.
@@ -43,7 +46,7 @@ pub extern "C" fn clundip_abort(
     ensures { λ _. ⌜ lent (now (records .entry)) (now (frames .entry)) (now (map .entry)) (now (answer .exit))
         ≡ lentAfter (abortOf slot ipa) (now (records .entry)) (now (frames .entry)) (now (map .entry)) ⌝ }
 {
-    let reply = abort(monitor_in(records), frames, map, slot, ipa);
-    let told = reply.answer;
+    let met = abort(monitor_in(records), frames, map, slot, ipa);
+    let told = met.answer;
     put_answer(answer, told);
 }

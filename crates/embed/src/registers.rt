@@ -21,8 +21,8 @@ pub extern "C" fn clundip_register_read(
     ensures { λ _. ⌜ ((frames map : List ℕ) → lent (now (records .entry)) frames map (now (answer .exit))
         ≡ lentAfter (registerReadOf slot register) (now (records .entry)) frames map) ⌝ }
 {
-    let reply = register_read(monitor_in(records), slot, register);
-    let told = reply.answer;
+    let read = register_read(monitor_in(records), slot, register);
+    let told = read.answer;
     put_answer(answer, told);
 }
 
@@ -38,6 +38,6 @@ pub extern "C" fn clundip_register_write(
     ensures { λ _. ⌜ ((frames map : List ℕ) → lent (now (records .exit)) frames map (now (answer .exit))
         ≡ lentAfter (registerWriteOf slot register value) (now (records .entry)) frames map) ⌝ }
 {
-    let reply = register_write(monitor_in(records), slot, register, value);
-    put_reply(records, slot, reply, answer);
+    let written = register_write(monitor_in(records), slot, register, value);
+    put_reply(records, slot, written, answer);
 }

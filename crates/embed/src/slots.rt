@@ -28,10 +28,10 @@ pub extern "C" fn clundip_create(
     ensures { λ _. ⌜ lent (now (records .exit)) (now (frames .entry)) (now (map .entry)) (now (answer .exit))
         ≡ lentAfter createOf (now (records .entry)) (now (frames .entry)) (now (map .entry)) ⌝ }
 {
-    let reply = create(monitor_in(records), frames, map);
-    let told = reply.answer;
+    let created = create(monitor_in(records), frames, map);
+    let told = created.answer;
     let numbers = told.numbers();
-    put_reply(records, numbers.v0, reply, answer);
+    put_reply(records, numbers.v0, created, answer);
 }
 
 // The guest in a slot is run.
@@ -40,8 +40,8 @@ pub extern "C" fn clundip_run(records: &mut [u64; RECORD_WORDS], slot: u64, answ
     ensures { λ _. ⌜ ((frames map : List ℕ) → lent (now (records .exit)) frames map (now (answer .exit))
         ≡ lentAfter (runOf slot) (now (records .entry)) frames map) ⌝ }
 {
-    let reply = run(monitor_in(records), slot);
-    put_reply(records, slot, reply, answer);
+    let ran = run(monitor_in(records), slot);
+    put_reply(records, slot, ran, answer);
 }
 
 // The guest in a slot is removed.
@@ -56,8 +56,8 @@ pub extern "C" fn clundip_remove(
     ensures { λ _. ⌜ lent (now (records .exit)) (now (frames .exit)) (now (map .exit)) (now (answer .exit))
         ≡ lentAfter (removeOf slot) (now (records .entry)) (now (frames .entry)) (now (map .entry)) ⌝ }
 {
-    let reply = remove(monitor_in(records), frames, map, slot);
-    put_reply(records, slot, reply, answer);
+    let removed = remove(monitor_in(records), frames, map, slot);
+    put_reply(records, slot, removed, answer);
 }
 
 // The row of the guest in a slot: where it begins in the map table, and how many words it has.

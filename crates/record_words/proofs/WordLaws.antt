@@ -10,7 +10,7 @@ use borrow.Author.Tests.{lt-ltb, le-ltb, eq-eqb, ne-eqb}
 use lib.Dec.{eqb}
 use lib.ListN.{length, getD, take, drop, set, take-append-drop}
 use lib.Seq.{getD-drop, drop-drop, take-add, sets-eq}
-use Rattle.records.specs.Monitor.{withGuest}
+use Rattle.records.specs.Monitor.{zeroGuest, guestOf, withGuest}
 use Rattle.records.specs.declared.guest.Guest.{Guest}
 use Rattle.record_words.specs.Words.{wordsFrom, isSet, guestAt, guestsFrom, monitorIn, flag, wordsOf, sameRecord, recordAfter, recordsAfter, wordsAfter}
 
@@ -27,6 +27,19 @@ pub guest-read : (w : List ℕ) (v : ℕ)
     ≡ guestAt w v
 unfolding guestAt
 guest-read w v = let here : 6 * v + 0 ≡ 6 * v = omega arith in simp (getD-drop, here)
+
+from-there : (w : List ℕ) (u n k : ℕ) → k < n → getD (guestsFrom w u n) k zeroGuest ≡ guestAt w (u + k)
+from-there w u zero k h = absurd (omega arith)
+from-there w u (suc n) zero h = let here : u + 0 ≡ u = omega arith in rw here
+from-there w u (suc n) (suc k) h = let there : suc u + k ≡ u + suc k = omega arith in rw (← there) (from-there w (suc u) n k (omega arith))
+
+pub guest-there : (w : List ℕ) (v : ℕ) → v < 8 → guestOf (monitorIn w) v ≡ guestAt w v
+unfolding guestOf
+guest-there w v h = rw (lt-ltb v 8 h, from-there w 0 8 v h, zero-add)
+
+pub guest-nowhere : (w : List ℕ) (v : ℕ) → 8 ≤ v → guestOf (monitorIn w) v ≡ zeroGuest
+unfolding guestOf
+guest-nowhere w v h = rw (le-ltb v 8 h)
 
 -- six stores in a row
 pub six-stored : (w : List ℕ) (k a b c d e f : ℕ) → k + 6 ≤ length w

@@ -51,7 +51,7 @@ fn put_words(words: &mut [u64; RECORD_WORDS], at: usize, guest: Guest)
 }
 
 // Puts the record of a slot in. Where the words hold the same record already, and for a slot above 7, no word changes.
-pub(crate) fn put_record(words: &mut [u64; RECORD_WORDS], slot: u64, guest: Guest)
+pub fn put_record(words: &mut [u64; RECORD_WORDS], slot: u64, guest: Guest)
     ensures { λ _. ⌜ now (words .exit) ≡ wordsAfter (now (words .entry)) (withGuest (monitorIn (now (words .entry))) slot guest) ⌝ }
 {
     if slot < 8 {

@@ -5,6 +5,8 @@ mod encoding;
 mod replies;
 
 pub use decoding::RECORD_WORDS;
+pub use decoding::guest_in;
 pub use decoding::monitor_in;
+pub use encoding::put_record;
 pub use replies::put_answer;
 pub use replies::put_reply;
