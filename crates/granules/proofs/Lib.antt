@@ -1,4 +1,5 @@
 pub mod ChangeLaws
 pub mod StepLaws
 pub mod RangeLaws
+pub mod ResharingLaws
 pub mod Lent

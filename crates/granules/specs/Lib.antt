@@ -1,2 +1,4 @@
 pub mod Kind
 pub mod Step
+pub mod Range
+pub mod Resharing

@@ -2,6 +2,7 @@
 // It rests on words and tables, and on runs for what a range of steps is. It knows no record, no register and no call.
 mod kinds;
 mod range;
+mod resharing;
 mod step;
 
 pub use kinds::Change;

@@ -4,6 +4,7 @@ ghost use lib.ListN.{length};
 ghost use Rattle.runs.specs.Run.{ended, run};
 ghost use Rattle.granules.specs.Step.{place, rangeLimit, rowStep, stopBy};
 use crate::kinds::Operation;
+use crate::resharing::reshare_range;
 use crate::step::Outcome;
 use crate::step::change_granule;
 use words::Granule;
@@ -42,7 +43,7 @@ pub fn change_range(
 {
     let limit = at_most(count);
     let start = first.0;
-    let mut done: u64 = 0;
+    let mut done = reshare_range(row, frames, slot, first, limit, operation);
     while done < limit {
         let outcome = change_granule(row, frames, slot, Granule(start + done), operation);
         if let Outcome::Done = outcome {
