@@ -36,3 +36,9 @@ module _ (call : State → Answered) (w f m : List ℕ) (b : Monitor) (read : b 
     lent-put v one w′ put =
         let back : withGuest (monitorIn w) v (guestOf r v) ≡ r = rw (← done) at one in
         lent-done w′ (rw back at put)
+
+-- a call that leaves the state, as every refusal does, leaves every word
+pub lent-refused : (call : State → Answered) (w f m : List ℕ) → call (state f m (monitorIn w)) .left ≡ state f m (monitorIn w)
+    → lentAfter call w f m ≡ lent w f m (answerWords (numbersOf (call (state f m (monitorIn w)) .answer)))
+unfolding lentAfter
+lent-refused call w f m same = rw (same, records-kept w)

@@ -89,7 +89,8 @@ pub records-kept : (w : List ℕ) → wordsAfter w (monitorIn w) ≡ w
 unfolding wordsAfter
 records-kept w = kept-from w 0 8
 
-put-at : (w : List ℕ) (k : ℕ) (g : Guest) → k < 8 → wordsAfter w (withGuest (monitorIn w) k g) ≡ take (6 * k) w ++ recordAfter w k g ++ drop (6 * k + 6) w
+-- only the six words of the slot can change
+pub put-at : (w : List ℕ) (k : ℕ) (g : Guest) → k < 8 → wordsAfter w (withGuest (monitorIn w) k g) ≡ take (6 * k) w ++ recordAfter w k g ++ drop (6 * k + 6) w
 unfolding wordsAfter withGuest
 put-at w k g h =
     let next : 6 * k + 6 ≡ 6 * suc k = omega arith in
