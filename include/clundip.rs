@@ -22,7 +22,9 @@ pub const RECORD_WORDS: usize = 48;
 pub type Records = [u64; RECORD_WORDS];
 
 /// What a call answers: a verdict, and values that the verdict gives a meaning.
+/// Its five words in this order are what the library writes.
 #[derive(Clone, Copy, Debug, PartialEq, Eq)]
+#[repr(C)]
 pub struct Answer {
     pub verdict: u64,
     pub v0: u64,
@@ -87,11 +89,8 @@ pub mod function {
     pub const RANGE_GUARD_UNMAP: u64 = 0xC600_000B;
 }
 
-/// The five words of an answer, as the library writes them.
-type Words = [u64; 5];
-
-/// What these words hold before the call. The library writes all of them; a
-/// word that it did not write would show.
+/// What lent words hold before a call that writes them all; one that it did
+/// not write would show.
 const UNWRITTEN: u64 = 0x5555_5555_5555_5555;
 
 #[link(name = "embed", kind = "static")]
@@ -102,7 +101,7 @@ unsafe extern "C" {
         frame_words: usize,
         map: *mut u32,
         map_words: usize,
-        answer: *mut Words,
+        answer: *mut Answer,
     );
     fn clundip_donate(
         records: *mut Records,
@@ -113,9 +112,9 @@ unsafe extern "C" {
         slot: u64,
         frame: u64,
         granule: u64,
-        answer: *mut Words,
+        answer: *mut Answer,
     );
-    fn clundip_run(records: *mut Records, slot: u64, answer: *mut Words);
+    fn clundip_run(records: *mut Records, slot: u64, answer: *mut Answer);
     fn clundip_remove(
         records: *mut Records,
         frames: *mut u32,
@@ -123,7 +122,7 @@ unsafe extern "C" {
         map: *mut u32,
         map_words: usize,
         slot: u64,
-        answer: *mut Words,
+        answer: *mut Answer,
     );
     fn clundip_cleared(
         frames: *mut u32,
@@ -131,7 +130,7 @@ unsafe extern "C" {
         map: *const u32,
         map_words: usize,
         frame: u64,
-        answer: *mut Words,
+        answer: *mut Answer,
     );
     fn clundip_access(
         frames: *const u32,
@@ -139,7 +138,7 @@ unsafe extern "C" {
         map: *const u32,
         map_words: usize,
         frame: u64,
-        answer: *mut Words,
+        answer: *mut Answer,
     );
     fn clundip_show(
         records: *const Records,
@@ -147,15 +146,15 @@ unsafe extern "C" {
         map_words: usize,
         slot: u64,
         part: *mut [u64; 2],
-        answer: *mut Words,
+        answer: *mut Answer,
     );
-    fn clundip_register_read(records: *const Records, slot: u64, reg: u64, answer: *mut Words);
+    fn clundip_register_read(records: *const Records, slot: u64, reg: u64, answer: *mut Answer);
     fn clundip_register_write(
         records: *mut Records,
         slot: u64,
         reg: u64,
         value: u64,
-        answer: *mut Words,
+        answer: *mut Answer,
     );
     fn clundip_hypercall(
         records: *mut Records,
@@ -168,7 +167,7 @@ unsafe extern "C" {
         r1: u64,
         r2: u64,
         r3: u64,
-        answer: *mut Words,
+        answer: *mut Answer,
     );
     fn clundip_abort(
         records: *const Records,
@@ -178,25 +177,24 @@ unsafe extern "C" {
         map_words: usize,
         slot: u64,
         ipa: u64,
-        answer: *mut Words,
+        answer: *mut Answer,
     );
 }
 
 // SAFETY, for all calls below: each area is lent for one call, with the length
 // that it has, and to write only where it is borrowed so.
 
-/// Lends the words of an answer to a call, and reads them.
-fn answered(call: impl FnOnce(&mut Words)) -> Answer {
-    let mut words = [UNWRITTEN; 5];
-    call(&mut words);
-    let [verdict, v0, v1, v2, v3] = words;
-    Answer {
-        verdict,
-        v0,
-        v1,
-        v2,
-        v3,
-    }
+/// Lends an answer to a call.
+fn answered(call: impl FnOnce(&mut Answer)) -> Answer {
+    let mut answer = Answer {
+        verdict: UNWRITTEN,
+        v0: UNWRITTEN,
+        v1: UNWRITTEN,
+        v2: UNWRITTEN,
+        v3: UNWRITTEN,
+    };
+    call(&mut answer);
+    answer
 }
 
 /// Makes a guest in the lowest slot that isn't live. v0 is the slot.

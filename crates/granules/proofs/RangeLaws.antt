@@ -1,5 +1,5 @@
 -- The loop of a range: the steps so far are done, and one more makes them one more or ends the range.
-use mathlib.Core.Path.{_≡_, refl, sym, ap, _∙_}
+use mathlib.Core.Path.{_≡_, refl, sym, ap, subst, _∙_}
 use mathlib.Core.List.{List}
 use Prim.Native.Nat.{ℕ, suc, _+_, _-_, _<_, _≤_}
 use native.Mathlib.Nat.{add-zero, add-assoc}
@@ -64,3 +64,13 @@ module _ {o : Operation} {v : ℕ} where
       stop outcome.Done n e = absurd (n refl)
       stop outcome.Refused n e = halted notDone e
       stop outcome.Damaged n e = halted isDamaged e
+
+-- granules up to n are done, and k more from there
+pub done-up-to : {o : Operation} {v : ℕ} {row₀ frames₀ : List ℕ} {g limit : ℕ} {row frames : List ℕ} {n k : ℕ} {row′ frames′ : List ℕ}
+    → Going o v row₀ frames₀ g limit row frames (n - g) → g ≤ n → Going o v row frames n 1 row′ frames′ k → n - g + k ≤ limit
+    → Going o v row₀ frames₀ g limit row′ frames′ (n + k - g)
+done-up-to {o} {v} {g = g} {row = row} {frames} {n} {k} {row′} {frames′} i h j m =
+    let there : n ≡ g + (n - g) = omega arith in
+    let on : Going o v row frames (g + (n - g)) 1 row′ frames′ k = subst (λ (x : ℕ). Going o v row frames x 1 row′ frames′ k) there j in
+    let in-all : n + k - g ≡ n - g + k = omega arith in
+    rw in-all (goes-on i on m)

@@ -1,4 +1,4 @@
-ghost use Prim.Native.Nat.{_+_, _<_, _≤_};
+ghost use Prim.Native.Nat.{_+_, _<_, _≤_, max};
 ghost use lib.ListN.{length};
 ghost use mir.Val.{boolByte};
 ghost use Rattle.granules.specs.Range.{Going};
@@ -44,7 +44,7 @@ fn reshare_granule(
 
 // How many granules from this one on may be tried: those of the row, at most the limit. None where a number has no room in a word.
 fn granules_to_try(granules: usize, frames: usize, slot: usize, start: u64, limit: u64) -> u64
-    ensures { λ r. ⌜ (r ≤ limit) × (0 < r → Room slot granules frames × (start + r ≤ granules)) ⌝ }
+    ensures { λ r. ⌜ (r ≤ limit) × ((start + r ≤ max start granules) × (0 < r → Room slot granules frames)) ⌝ }
 {
     if 8 <= slot {
         return 0;
@@ -75,16 +75,16 @@ fn reshare_each(
     ensures { λ r. ⌜ Going (resharing from to) slot (now (row .entry)) (now (frames .entry)) (first .0) limit (now (row .exit)) (now (frames .exit)) r ⌝ }
 {
     let start = first.0;
-    let most = granules_to_try(row.len(), frames.len(), slot, start, limit);
-    let mut done: u64 = 0;
-    while done < most {
-        if reshare_granule(row, frames, slot, (start + done) as usize, from, to) {
-            done += 1;
+    let end = start + granules_to_try(row.len(), frames.len(), slot, start, limit);
+    let mut number = start;
+    while number < end {
+        if reshare_granule(row, frames, slot, number as usize, from, to) {
+            number += 1;
         } else {
-            return done;
+            return number - start;
         }
     }
-    done
+    number - start
 }
 
 // The first granules of a share or an unshare, as many as can be done by comparing words alone. It does not say why it stopped, and does

@@ -49,10 +49,16 @@ impl Guest {
     }
 
     // The record of a guest that enrolls. Nothing else changes.
-    pub fn enroll(mut self) -> Guest
+    pub fn enroll(self) -> Guest
         ensures { λ r. ⌜ r ≡ enroll self ⌝ }
     {
-        self.enrolled = true;
-        self
+        Guest {
+            live: self.live,
+            run: self.run,
+            enrolled: true,
+            std: self.std,
+            std_hyp: self.std_hyp,
+            vendor_hyp: self.vendor_hyp,
+        }
     }
 }
