@@ -1,31 +1,16 @@
 -- A call changes the record of one slot at the most.
 use mathlib.Core.Path.{_≡_, refl}
 use mathlib.Core.Option.{Option, none, some}
-use mathlib.Core.Bool.{Bool}
-use Prim.Native.Nat.{ℕ, _<_, min}
-use native.Mathlib.Decide.{decLt}
-use native.Mathlib.Omega.{arith}
-use borrow.Author.Tests.{lt-ltb, le-ltb}
+use Prim.Native.Nat.{ℕ}
 use lib.ListN.{length}
-use lib.Seq.{getD-set-same, set-getD, set-out}
-use Rattle.runs.specs.Run.{End, ended, run}
-use Rattle.records.specs.Monitor.{zeroGuest, newGuest, markRun, enroll, guestOf, withGuest}
+use Rattle.records.specs.Monitor.{zeroGuest, newGuest, markRun, guestOf, withGuest}
 use Rattle.records.specs.Answer.{numbersOf}
 use Rattle.records.specs.State.{State, Answered, answered}
 use Rattle.records.specs.Tests.{firstRefusal, unlessRefused}
 use Rattle.records.proofs.MonitorLaws.{put-own, put-read}
-use Rattle.records.specs.declared.guest.Guest.{Guest}
 use Rattle.records.specs.declared.monitor.Monitor.{Monitor}
 use Rattle.records.specs.declared.answer.Answer.{Answer}
-use Rattle.granules.specs.Step.{rangeLimit, Place, place, Refusal, tableStep}
-use Rattle.words.specs.Granule.{granuleOf}
-use Rattle.functions.specs.Function.{askedBy}
-use Rattle.functions.specs.Table.{rowOf, actionOf}
-use Rattle.functions.specs.declared.rows.Registers.{Registers}
-use Rattle.functions.specs.declared.rows.Error.{Error}
-use Rattle.functions.specs.declared.actions.Action.{Action}
-use Rattle.functions.specs.declared.actions.Action.the-variants as action
-use Rattle.guest.specs.Calls.{callerTests, rowTests, finished, actOf, hypercallOf, accessOf, abortOf}
+use Rattle.guest.specs.Calls.{callerTests, accessOf, abortOf}
 use Rattle.host_registers.specs.Registers.{registerNumbered, withBitmap, readTests, writeTests, bitmapTold, bitmapWritten, registerReadOf, registerWriteOf}
 use Rattle.host_donation.specs.Calls.{donateTests, donated, donateOf}
 use Rattle.host_frames.specs.Calls.{accessTests, clearedTests, handedBack, clearedOf, accessTold, hostAccessOf}

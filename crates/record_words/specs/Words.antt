@@ -1,6 +1,6 @@
 -- The guest records as words that a caller lends: for each of the eight slots live, run, enrolled, STD, STD_HYP and VENDOR_HYP. And an
 -- answer as five words.
-use mathlib.Core.Bool.{Bool, true, false, cond, not, _&&_}
+use mathlib.Core.Bool.{Bool, cond, not, _&&_}
 use mathlib.Core.List.{List, [], _∷_, _++_}
 use Prim.Native.Nat.{ℕ, zero, suc, _*_}
 use lib.Dec.{eqb}
@@ -38,6 +38,7 @@ abbrev pub guestsFrom : List ℕ → ℕ → ℕ → List Guest
 guestsFrom w v zero = []
 guestsFrom w v (suc n) = guestAt w v ∷ guestsFrom w (suc v) n
 
+-- the records of all eight slots
 abbrev pub monitorIn : List ℕ → Monitor
 monitorIn w = record { guests = guestsFrom w 0 8 }
 
@@ -49,6 +50,7 @@ flag b = cond b 1 0
 abbrev pub wordsOf : Guest → List ℕ
 wordsOf g = flag (g .live) ∷ flag (g .run) ∷ flag (g .enrolled) ∷ g .std ∷ g .«std_hyp» ∷ g .«vendor_hyp» ∷ []
 
+-- the same flags and bitmaps
 abbrev pub sameRecord : Guest → Guest → Bool
 sameRecord a b =
     eqb (flag (a .live)) (flag (b .live))
