@@ -1,5 +1,8 @@
 //! The calls of document 01 in ordinary Rust, on the same lent words as the library.
 //! The benchmarks time the proved calls against these.
+//!
+//! Of a record that changes, run, enroll and register write set the one word that they are about; the library
+//! writes all six, with flags as 0 or 1. That shows only on flags that are neither.
 
 pub const RECORD_WORDS: usize = 48;
 pub type Records = [u64; RECORD_WORDS];
