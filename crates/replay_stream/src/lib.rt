@@ -13,8 +13,8 @@ use trace::Session;
 use trace_lines::Line;
 use trace_lines::ROOM;
 
-// Replays the log on one descriptor to its end, and writes the text to another. Where the text can't be written it stops. Where the log can't
-// be read it stops too, with a message on standard error and no last line.
+// Replays the log on one descriptor to its end, and writes the text to another. Where the text can't be written, or the log can't be read, it
+// stops with a message on standard error and no last line.
 pub fn replay(from: i32, to: i32) {
     let mut frames = [0u32; FRAMES];
     let mut map = [0u32; MAP_WORDS];

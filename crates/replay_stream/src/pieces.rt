@@ -1,3 +1,4 @@
+use libc::STDERR_FILENO;
 use trace::Session;
 use trace::keep;
 use trace_lines::ROOM;
@@ -99,11 +100,14 @@ fn finish(session: Session, out: &mut [u8; ROOM], left: usize, to: i32) {
     write_out(to, out, count);
 }
 
-// Writes the first bytes of the buffer, and answers whether all could be written.
+// Writes the first bytes of the buffer, and answers whether all could be written. Where they could not, a message says so.
 pub(crate) fn write_out(to: i32, out: &[u8; ROOM], count: usize) -> bool {
     let text: &[u8] = out;
-    if text.len() < count {
-        return false;
+    if count <= text.len() {
+        if io::write_all(to, &text[0..count]) {
+            return true;
+        }
     }
-    io::write_all(to, &text[0..count])
+    io::write_all(STDERR_FILENO, b"replay: the text can't be written\n");
+    false
 }
