@@ -144,6 +144,23 @@ struct Tally {
     bad: u64,
 }
 
+impl Tally {
+    /// Prints the verdicts that did not come, and `bad`, and says how many.
+    fn missing(&self) -> usize {
+        let missing = VERDICTS
+            .iter()
+            .filter(|&&number| self.verdicts[number] == 0);
+        let mut missing: Vec<String> = missing.map(|number| format!("verdict {number}")).collect();
+        if self.bad == 0 {
+            missing.push("bad".into());
+        }
+        for name in &missing {
+            println!("{name} did not come");
+        }
+        missing.len()
+    }
+}
+
 /// The text that document 01 has for a log.
 fn text(mut log: &[u8], tally: &mut Tally) -> String {
     let mut memory = fresh();
@@ -244,10 +261,7 @@ fn main() -> ExitCode {
         }
     }
     println!("verdict 0 to 13: {:?}; bad: {}", tally.verdicts, tally.bad);
-    let missing = VERDICTS
-        .iter()
-        .filter(|&&verdict| tally.verdicts[verdict] == 0);
-    let missing = missing.count() + usize::from(tally.bad == 0);
+    let missing = tally.missing();
     println!("{logs} passed, {missing} failed");
     if missing == 0 {
         ExitCode::SUCCESS
