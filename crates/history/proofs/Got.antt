@@ -14,6 +14,7 @@ use Rattle.calls.specs.declared.call.Call.{Call}
 use Rattle.history.specs.Reachable.{Fits}
 use Rattle.history.proofs.Seen.{own, at-or-not}
 use Rattle.history.proofs.WordsSound.{WordsSound}
+use Rattle.history.proofs.Moves.{FramePut}
 
 pub record Got (F W : ℕ) (s : State) : Type 0 where
   pub calls : List Call
@@ -43,6 +44,11 @@ pub record Undone (F W : ℕ) (C : State → Type 0) (word : FrameWord → Bool)
   pub frame : word (own before n) ≡ false
   pub frames : (f : ℕ) → f ≢ n → own before f ≡ own s f
   pub undone : Got F W before → Got F W s
+
+pub undone-put : {F W : ℕ} {C : State → Type 0} {word : FrameWord → Bool} {s t : State} {n : ℕ} {d : FrameWord}
+    → FramePut F W s t n d → C t → word d ≡ false → (Got F W t → Got F W s) → Undone F W C word s n
+undone-put {word = word} {t = t} put c w undone =
+    record { before = t; sound = put .sound; class = c; frame = ap word (put .frame) ∙ w; frames = put .frames; undone = undone }
 
 module _ (F W : ℕ) (C : State → Type 0) (word : FrameWord → Bool)
     (base : (s : State) → WordsSound F W s → C s → ((f : ℕ) → f < F → word (own s f) ≡ false) → Got F W s)

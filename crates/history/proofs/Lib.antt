@@ -22,6 +22,7 @@ pub mod CallsKept
 pub mod SameState
 pub mod Does
 pub mod Got
+pub mod UndoRemovals
 pub mod UndoClearings
 pub mod UndoCreations
 pub mod UndoDonations

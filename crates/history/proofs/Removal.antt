@@ -31,7 +31,7 @@ use Rattle.history.proofs.RecordLaws.{zero-sound}
 use Rattle.history.proofs.FreedRow.{put, put-length, put-before, put-within, put-after, freed-length, freed-named, freed-other}
 use Rattle.history.proofs.Held.{heldThen}
 
--- whether slot v owns a frame, and what its word is when that guest is gone
+-- whether slot v owns a frame
 abbrev ownedBy : ℕ → FrameWord → Bool
 ownedBy v frame-word.Host = false
 ownedBy v frame-word.Waiting = false
@@ -49,7 +49,11 @@ owner-not v d h b g e =
     let t : ownedBy v d ≡ true = rw e (eq-eqb v v refl) in
     never (sym h ∙ t)
 
-owner-held : (v : ℕ) (d : FrameWord) → cond (ownedBy v d) frame-word.Waiting d ≡ heldThen (λ u h. eqb u v) (λ u h. frame-word.Waiting) d
+-- the word of a frame when the guest in slot v is gone
+abbrev pub ownerGone : ℕ → FrameWord → FrameWord
+ownerGone v d = heldThen (λ u h. eqb u v) (λ u h. frame-word.Waiting) d
+
+owner-held : (v : ℕ) (d : FrameWord) → cond (ownedBy v d) frame-word.Waiting d ≡ ownerGone v d
 owner-held v frame-word.Host = refl
 owner-held v frame-word.Waiting = refl
 owner-held v (frame-word.Owned u b g) = refl
@@ -65,7 +69,7 @@ module _ {F W : ℕ} {s : State} (i : WordsSound F W s) (v : ℕ) (hv : v < 8) w
   width : length row ≡ W
   width = row-length (s .map) v hv ∙ width-is (i .sized)
 
-  says-row : (g : ℕ) → g < W → mapWordOf (getD row g 0) ≡ look W s v g
+  pub says-row : (g : ℕ) → g < W → mapWordOf (getD row g 0) ≡ look W s v g
   unfolding look
   says-row g h = ap mapWordOf (row-word (s .map) v g hv (omega (arith, width-is (i .sized))) ∙ rw (width-is (i .sized)))
 
@@ -81,7 +85,7 @@ module _ {F W : ℕ} {s : State} (i : WordsSound F W s) (v : ℕ) (hv : v < 8) w
       (freed-other row (s .frames) f (λ g b l q.
       owner-not v (own s f) e b g (i .says-back v b g f hv (omega (arith, width)) (sym (says-row g (omega (arith, width))) ∙ q) .1)))
 
-  pub owners-gone : (f : ℕ) → f < F → own gone f ≡ heldThen (λ u h. eqb u v) (λ u h. frame-word.Waiting) (own s f)
+  pub owners-gone : (f : ℕ) → f < F → own gone f ≡ ownerGone v (own s f)
   owners-gone f h = own-gone f h (ownedBy v (own s f)) refl ∙ owner-held v (own s f)
 
   abbrev vacant : List ℕ

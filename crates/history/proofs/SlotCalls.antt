@@ -12,13 +12,12 @@ use lib.ListN.{length, getD}
 use Rattle.words.specs.MapWord.{mapBits, mapWordOf}
 use Rattle.words.specs.declared.map_word.MapWord.{MapWord}
 use Rattle.words.specs.declared.map_word.MapWord.the-variants as map-word
-use Rattle.words.specs.declared.frame_word.FrameWord.the-variants as frame-word
 use Rattle.words.proofs.Booleans.{both-true}
 use Rattle.words.proofs.MapWordLaws.{map-encode-decode}
 use Rattle.tables.specs.Length.{framesHold, mapHolds}
 use Rattle.tables.specs.Row.{rowOf}
 use Rattle.tables.specs.Pair.{granuleState, granuleUndamaged}
-use Rattle.tables.proofs.RowLaws.{row-length, row-length-none, row-word}
+use Rattle.tables.proofs.RowLaws.{row-length, row-length-none}
 use Rattle.records.specs.Answer.{numbersOf}
 use Rattle.records.specs.Monitor.{zeroGuest, newGuest, markRun, guestOf}
 use Rattle.records.specs.State.{State, answered}
@@ -38,13 +37,13 @@ use Rattle.history.proofs.WordsSound.{stateBy, WordsSound}
 use Rattle.history.proofs.SoundLaws.{pair-seen}
 use Rattle.history.proofs.RecordMoves.{recorded-sound}
 use Rattle.history.proofs.RecordLaws.{new-sound, run-sound, run-holds, bitmap-flags, flags-hold, bitmap-sound}
-use Rattle.history.proofs.Removal.{owners-gone, gone-sound}
-use Rattle.history.proofs.Held.{heldThen, owner-changed}
+use Rattle.history.proofs.Removal.{ownerGone, says-row, owners-gone, gone-sound}
+use Rattle.history.proofs.Held.{owner-changed}
 use Rattle.history.proofs.Kept.{usual, Kept, test, sure, tests-kept}
 use Rattle.history.proofs.Looks.{granule-undamaged}
 
 -- a record that is not a guest's lets a granule hold nothing
-pub dead-vacant : (d : MapWord) → mayHold zeroGuest (stateBy d) ≡ true → d ≡ map-word.Vacant
+dead-vacant : (d : MapWord) → mayHold zeroGuest (stateBy d) ≡ true → d ≡ map-word.Vacant
 dead-vacant map-word.Vacant h = refl
 dead-vacant (map-word.Frame true f) h = cc
 dead-vacant (map-word.Frame false f) h = cc
@@ -84,13 +83,12 @@ shown-usual false row = refl
 module _ {F W : ℕ} {s : State} (i : WordsSound F W s) where
   -- the words of a row
   row-seen : (v g : ℕ) → v < 8 → g < length (rowOf (s .map) v) → (g < W) × (mapWordOf (getD (rowOf (s .map) v) g 0) ≡ look W s v g)
-  unfolding look
   row-seen v g h l =
       let below : g < W = omega (arith, row-length (s .map) v h, width-is (i .sized)) in
-      (below, ap mapWordOf (row-word (s .map) v g h (omega (arith, width-is (i .sized))) ∙ rw (width-is (i .sized))))
+      (below, says-row i v h g below)
 
   -- a slot that is not live has a vacant row, and one that is not there has none
-  dead-row : (v g : ℕ) → v < 8 → g < W → guestOf (s .monitor) v .live ≡ false → look W s v g ≡ map-word.Vacant
+  pub dead-row : (v g : ℕ) → v < 8 → g < W → guestOf (s .monitor) v .live ≡ false → look W s v g ≡ map-word.Vacant
   dead-row v g h l e = dead-vacant (look W s v g) (rw (i .records v h .dead e) at (i .holds v g h l))
 
   pub free-row : (v : ℕ) → (v < 8 → guestOf (s .monitor) v .live ≡ false) → rowVacant (rowOf (s .map) v) ≡ true
@@ -145,7 +143,7 @@ module _ {F W : ℕ} {s : State} (i : WordsSound F W s) where
       record {
         sound = gone-sound i v slot;
         logged = λ k l x q.
-            owners-gone i v slot k l ∙ ap (heldThen (λ u h. eqb u v) (λ u h. frame-word.Waiting)) q
+            owners-gone i v slot k l ∙ ap (ownerGone v) q
             ∙ sym (owner-changed (λ u h. eqb u v) (λ u h. log.ownerRemoved) x);
         usual-verdict = refl;
       })

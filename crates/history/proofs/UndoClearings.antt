@@ -5,7 +5,6 @@ use mathlib.Core.Bool.{Bool, true, false}
 use mathlib.Core.List.{[]}
 use Prim.Native.Nat.{ℕ, _+_, _*_, _<_}
 use native.Mathlib.Omega.{arith}
-use lib.Dec.{eqb}
 use lib.ListN.{set}
 use Rattle.words.specs.FrameWord.{frameBits}
 use Rattle.words.specs.MapWord.{mapBits}
@@ -18,39 +17,31 @@ use Rattle.tables.proofs.LengthLaws.{width-between}
 use Rattle.records.specs.Monitor.{zeroGuest, newGuest, guestOf, withGuest}
 use Rattle.records.specs.State.{State, state}
 use Rattle.records.specs.declared.guest.Guest.{Guest}
-use Rattle.records.specs.declared.monitor.Monitor.{Monitor}
 use Rattle.records.proofs.MonitorLaws.{guest-put, guest-fresh}
+use Rattle.host_frames.specs.Calls.{frameWaiting}
 use Rattle.host_guests.specs.Calls.{freeFrom, freeSlot}
 use Rattle.host_removal.specs.Calls.{removed}
 use Rattle.calls.specs.declared.call.Call.the-variants.{Create, Donate, Remove}
 use Rattle.history.proofs.Seen.{own, look, width-is, at-or-not, at-most}
 use Rattle.history.proofs.WordsSound.{WordsSound}
+use Rattle.history.proofs.SoundLaws.{frameBy}
 use Rattle.history.proofs.Tied.{tied-named, tied-apart, FrameFree}
 use Rattle.history.proofs.Moves.{FramePut, GranulePut, pair-put, frame-put}
 use Rattle.history.proofs.RecordMoves.{recorded-sound}
 use Rattle.history.proofs.RecordLaws.{new-sound}
-use Rattle.history.proofs.Removal.{owners-gone, look-gone, look-there, gone-sound}
-use Rattle.history.proofs.Held.{heldThen}
-use Rattle.history.proofs.SlotCalls.{dead-vacant}
+use Rattle.history.proofs.Removal.{ownerGone}
+use Rattle.history.proofs.Looks.{waiting-word}
 use Rattle.history.proofs.CallsKept.{fresh-own, fresh-look, fresh-sound}
 use Rattle.history.proofs.SameState.{guest-back, same-state}
 use Rattle.history.proofs.Does.{does-create, does-donate, does-remove}
-use Rattle.history.proofs.Got.{Got, got-next, Undone, frames-got}
+use Rattle.history.proofs.Got.{Got, got-next, Undone, undone-put, frames-got}
+use Rattle.history.proofs.UndoRemovals.{row-vacant, unowned, owners-stay, removal-leaves}
 
 abbrev pub AllDead : State → Type 0
 AllDead s = (v : ℕ) → v < 8 → guestOf (s .monitor) v ≡ zeroGuest
 
 abbrev isWaiting : FrameWord → Bool
-isWaiting frame-word.Host = false
-isWaiting frame-word.Waiting = true
-isWaiting (frame-word.Owned v b g) = false
-isWaiting frame-word.Damaged = false
-
-waiting-is : (d : FrameWord) → isWaiting d ≡ true → d ≡ frame-word.Waiting
-waiting-is frame-word.Host h = cc
-waiting-is frame-word.Waiting h = refl
-waiting-is (frame-word.Owned v b g) h = cc
-waiting-is frame-word.Damaged h = cc
+isWaiting d = frameWaiting (frameBy d)
 
 host-word : (d : FrameWord) → FrameFree d → isWaiting d ≡ false → d ≡ frame-word.Host
 host-word frame-word.Host h n = refl
@@ -59,9 +50,6 @@ host-word (frame-word.Owned v b g) h n = absurd h
 host-word frame-word.Damaged h n = absurd h
 
 module _ (F W : ℕ) where
-  dead-vacant-row : (s : State) → WordsSound F W s → AllDead s → (v g : ℕ) → v < 8 → g < W → look W s v g ≡ map-word.Vacant
-  dead-vacant-row s i dead v g h l = dead-vacant (look W s v g) (rw (dead v h) at (i .holds v g h l))
-
   -- a frame of such a state is no guest's
   dead-free : (s : State) → WordsSound F W s → AllDead s → (f : ℕ) → f < F → FrameFree (own s f)
   dead-free s i dead f h = on (own s f) refl
@@ -69,18 +57,8 @@ module _ (F W : ℕ) where
       on : (d : FrameWord) → own s f ≡ d → FrameFree d
       on frame-word.Host e = tt
       on frame-word.Waiting e = tt
-      on (frame-word.Owned v b g) e =
-          let p = i .says v b g f h e in
-          let q = sym (dead-vacant-row s i dead v g (p .0) (p .1)) ∙ p .2 in
-          let z : _≡_ {A = ℕ} 0 1 = cc in
-          omega arith
+      on (frame-word.Owned v b g) e = let slot = i .says v b g f h e .0 in unowned i v slot (dead v slot) b g f h e
       on frame-word.Damaged e = i .whole f h e
-
-  free-held : (v : ℕ) (d : FrameWord) → FrameFree d → heldThen (λ u h. eqb u v) (λ u h. frame-word.Waiting) d ≡ d
-  free-held v frame-word.Host h = refl
-  free-held v frame-word.Waiting h = refl
-  free-held v (frame-word.Owned u b g) h = absurd h
-  free-held v frame-word.Damaged h = refl
 
   first-free : (s : State) → AllDead s → freeSlot (s .monitor) ≡ 0
   unfolding freeFrom
@@ -105,7 +83,7 @@ module _ (F W : ℕ) where
     unclaimed-put = frame-put i n h waits frame-word.Host tt
 
     vacant : (v g : ℕ) → v < 8 → g < W → look W unclaimed v g ≡ map-word.Vacant
-    vacant = dead-vacant-row unclaimed (unclaimed-put .sound) dead
+    vacant v g slot l = row-vacant (unclaimed-put .sound) v slot (dead v slot) g l
 
     joined-sound : WordsSound F W joined
     joined-sound = recorded-sound (unclaimed-put .sound) 0 newGuest new-sound (λ g l q. rw (vacant 0 g (omega arith) l))
@@ -134,19 +112,19 @@ module _ (F W : ℕ) where
     unfolding look
     look-other v g l m = given-put .1 .granules v g l (λ q. m (q .0))
 
+    first-dead : guestOf (s .monitor) 0 ≡ zeroGuest
+    first-dead = dead 0 (omega arith)
+
     gone-state : removed 0 given .left ≡ s
     gone-state =
-        let j = given-put .0 .sound in
-        same-state (gone-sound j 0 (omega arith)) i
-        (λ f l. owners-gone j 0 (omega arith) f l ∙ at-or-not (λ k. k < F → heldThen (λ u x. eqb u 0) (λ u x. frame-word.Waiting) (own given k) ≡ own s k) n f
+        removal-leaves i 0 (omega arith) first-dead (given-put .0 .sound)
+        (λ f l.
+        at-or-not (λ k. k < F → ownerGone 0 (own given k) ≡ own s k) n f
         (λ m. rw (given-put .0 .frame) (sym e))
-        (λ m q. rw (given-other f m) (free-held 0 (own s f) (dead-free s i dead f q)))
+        (λ m q. rw (given-other f m) (owners-stay i 0 (omega arith) first-dead f q))
         l)
-        (λ v g l m. at-or-not (λ u. u < 8 → look W (removed 0 given .left) u g ≡ look W s u g) 0 v
-        (λ q. look-gone j 0 (omega arith) g m ∙ sym (dead-vacant-row s i dead 0 g q m))
-        (λ q r. look-there j 0 (omega arith) v g m q ∙ look-other v g m q)
-        l)
-        (λ v l. ap (λ (x : Monitor). guestOf x v) (guest-back (s .monitor) 0 newGuest zeroGuest (omega arith) (dead 0 (omega arith))))
+        look-other
+        (guest-back (s .monitor) 0 newGuest zeroGuest (omega arith) first-dead)
 
     clearing-undone : Got F W unclaimed → Got F W s
     clearing-undone got =
@@ -167,22 +145,14 @@ module _ (F W : ℕ) where
       leaves =
           same-state (fresh-sound F W bounds) i
           (λ f l. fresh-own F W bounds f l ∙ sym (host-word (own s f) (dead-free s i dead f l) (none f l)))
-          (λ v g l m. fresh-look F W bounds v g l m ∙ sym (dead-vacant-row s i dead v g l m))
+          (λ v g l m. fresh-look F W bounds v g l m ∙ sym (row-vacant i v l (dead v l) g m))
           (λ v l. guest-fresh v ∙ sym (dead v l));
     }
 
     undo : (s : State) → WordsSound F W s → AllDead s → (n : ℕ) → n < F → isWaiting (own s n) ≡ true → Undone F W AllDead isWaiting s n
     undo s i dead n h w =
-        let e = waiting-is (own s n) w in
-        let put = unclaimed-put n s i dead h wide e in
-        record {
-          before = unclaimed n s i dead h wide e;
-          sound = put .sound;
-          class = dead;
-          frame = rw (put .frame);
-          frames = put .frames;
-          undone = clearing-undone n s i dead h wide e;
-        }
+        let e = waiting-word (own s n) w in
+        undone-put (unclaimed-put n s i dead h wide e) dead refl (clearing-undone n s i dead h wide e)
 
     pub dead-got : (s : State) → WordsSound F W s → AllDead s → Got F W s
     dead-got s i dead = frames-got F W AllDead isWaiting fresh-got undo s i dead

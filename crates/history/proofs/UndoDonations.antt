@@ -23,7 +23,7 @@ use Rattle.history.proofs.Tied.{tied-named, tied-apart}
 use Rattle.history.proofs.Moves.{FramePut, GranulePut, pair-put}
 use Rattle.history.proofs.SameState.{frame-back, map-back}
 use Rattle.history.proofs.Does.{does-donate}
-use Rattle.history.proofs.Got.{Got, got-next, Undone, frames-got}
+use Rattle.history.proofs.Got.{Got, got-next, Undone, undone-put, frames-got}
 use Rattle.history.proofs.UndoCreations.{new-got}
 
 -- what a new guest can hold is a private frame
@@ -84,15 +84,7 @@ module _ (F W : ℕ) (bounds : lengthsHold F (8 * W) ≡ true) where
       let p = i .says v true g n h e in
       absurd (new-holds (look W s v g) (rw (new v (p .0)) at (i .holds v g (p .0) (p .1))) n (p .2))
   undo s i new n h (frame-word.Owned v false g) e w =
-      let put = undonated-put n s i new h v g e .0 in
-      record {
-        before = undonated n s i new h v g e;
-        sound = put .sound;
-        class = new;
-        frame = rw (put .frame);
-        frames = put .frames;
-        undone = donation-undone n s i new h v g e;
-      }
+      undone-put (undonated-put n s i new h v g e .0) new refl (donation-undone n s i new h v g e)
   undo s i new n h frame-word.Damaged e w = never w
 
   pub all-new-got : (s : State) → WordsSound F W s → AllNew s → Got F W s

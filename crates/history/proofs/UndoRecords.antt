@@ -1,20 +1,16 @@
 -- Every sound state without shared and guarded granules is got: each slot's guest was new, then had its bitmap written, ran and enrolled, or
 -- was removed.
-use mathlib.Core.Path.{_≡_, refl, sym, ap, _∙_}
+use mathlib.Core.Path.{_≡_, refl, ap, _∙_}
 use mathlib.Core.Bool.{Bool, true, false, cond}
 use Prim.Native.Nat.{ℕ, zero, suc, _*_, _<_, _≤_}
 use native.Mathlib.Omega.{arith}
-use borrow.Author.Tests.{leb-true, le-leb, ne-eqb}
-use lib.Dec.{eqb}
+use borrow.Author.Tests.{leb-true, le-leb}
 use Rattle.words.specs.declared.map_word.MapWord.{MapWord}
 use Rattle.words.specs.declared.map_word.MapWord.the-variants as map-word
-use Rattle.words.specs.declared.frame_word.FrameWord.{FrameWord}
-use Rattle.words.specs.declared.frame_word.FrameWord.the-variants as frame-word
 use Rattle.tables.specs.Length.{lengthsHold}
 use Rattle.records.specs.Monitor.{zeroGuest, newGuest, markRun, enroll, guestOf, withGuest}
 use Rattle.records.specs.State.{State, state}
 use Rattle.records.specs.declared.guest.Guest.{Guest}
-use Rattle.records.specs.declared.monitor.Monitor.{Monitor}
 use Rattle.records.proofs.MonitorLaws.{guest-put, guest-other, put-again}
 use Rattle.host_registers.specs.Registers.{registerNumbered, withBitmap}
 use Rattle.host_registers.specs.declared.registers.FirmwareRegister.the-variants.{Std, StdHyp, VendorHyp}
@@ -25,12 +21,10 @@ use Rattle.history.proofs.Seen.{never, own, look, at-or-not}
 use Rattle.history.proofs.WordsSound.{stateBy, WordsSound}
 use Rattle.history.proofs.RecordMoves.{recorded-sound}
 use Rattle.history.proofs.RecordLaws.{new-sound, run-sound, bitmap-sound}
-use Rattle.history.proofs.Removal.{owners-gone, look-gone, look-there, gone-sound}
-use Rattle.history.proofs.Held.{heldThen}
-use Rattle.history.proofs.SlotCalls.{dead-vacant}
-use Rattle.history.proofs.SameState.{guest-same, guest-back, same-state}
+use Rattle.history.proofs.SameState.{guest-same, guest-back}
 use Rattle.history.proofs.Does.{asking, asking-fits, does-run, does-remove, does-write, does-enroll}
 use Rattle.history.proofs.Got.{Got, got-next}
+use Rattle.history.proofs.UndoRemovals.{owners-stay, removal-leaves}
 use Rattle.history.proofs.UndoDonations.{all-new-got}
 
 -- what a new guest may hold, any live one may
@@ -129,31 +123,11 @@ module _ (F W : ℕ) (s : State) (i : WordsSound F W s) (plain : Plain W s) (n :
     none : guestOf (s .monitor) n ≡ zeroGuest
     none = i .records n slot .dead dead
 
-    vacant : (g : ℕ) → g < W → look W s n g ≡ map-word.Vacant
-    vacant g l = dead-vacant (look W s n g) (rw none at (i .holds n g slot l))
-
-    -- whose frames none are
-    unowned : (f : ℕ) → f < F → (d : FrameWord) → own s f ≡ d → heldThen (λ u h. eqb u n) (λ u h. frame-word.Waiting) d ≡ d
-    unowned f h frame-word.Host e = refl
-    unowned f h frame-word.Waiting e = refl
-    unowned f h (frame-word.Owned u b g) e =
-        rw (ne-eqb u n (λ q.
-        let p = i .says u b g f h e in
-        let y : map-word.Vacant ≡ map-word.Frame b f = sym (vacant g (p .1)) ∙ rw (← q) (p .2) in
-        let z : _≡_ {A = ℕ} 0 1 = cc in
-        omega arith))
-    unowned f h frame-word.Damaged e = refl
-
     removed-is : removed n (having newGuest) .left ≡ s
     unfolding own look
     removed-is =
-        let j = having-sound newGuest new-sound refl in
-        same-state (gone-sound j n slot) i
-        (λ f l. owners-gone j n slot f l ∙ unowned f l (own s f) refl)
-        (λ v g l m. at-or-not (λ u. look W (removed n (having newGuest) .left) u g ≡ look W s u g) n v
-        (look-gone j n slot g m ∙ sym (vacant g m))
-        (λ q. look-there j n slot v g m q))
-        (λ v l. ap (λ (x : Monitor). guestOf x v) (guest-back (s .monitor) n newGuest zeroGuest slot none))
+        removal-leaves i n slot none (having-sound newGuest new-sound refl) (λ f h. owners-stay i n slot none f h) (λ u g h m. refl)
+        (guest-back (s .monitor) n newGuest zeroGuest slot none)
 
     dead-got : Got F W (having newGuest) → Got F W s
     dead-got got = got-next got (Remove n) (omega arith, tt) (does-remove (having-sound newGuest new-sound refl) n (ap (λ (g : Guest). g .live) (guest-is newGuest)) ∙ removed-is)

@@ -19,7 +19,7 @@ use Rattle.history.proofs.Tied.{tied-named}
 use Rattle.history.proofs.Moves.{FramePut, GranulePut, pair-put}
 use Rattle.history.proofs.SameState.{frame-back, map-back}
 use Rattle.history.proofs.Does.{asking, asking-fits, does-share}
-use Rattle.history.proofs.Got.{Got, got-next, Undone, frames-got}
+use Rattle.history.proofs.Got.{Got, got-next, Undone, undone-put, frames-got}
 use Rattle.history.proofs.UndoGuards.{run-live, isShared, unshared-got}
 
 module _ (F W : ℕ) (bounds : lengthsHold F (8 * W) ≡ true) where
@@ -55,15 +55,7 @@ module _ (F W : ℕ) (bounds : lengthsHold F (8 * W) ≡ true) where
   undo s i n h frame-word.Host e w = never w
   undo s i n h frame-word.Waiting e w = never w
   undo s i n h (frame-word.Owned v true g) e w =
-      let put = unshared-put s i n h v g e .0 in
-      record {
-        before = unshared s i n h v g e;
-        sound = put .sound;
-        class = tt;
-        frame = rw (put .frame);
-        frames = put .frames;
-        undone = share-undone s i n h v g e;
-      }
+      undone-put (unshared-put s i n h v g e .0) tt refl (share-undone s i n h v g e)
   undo s i n h (frame-word.Owned v false g) e w = never w
   undo s i n h frame-word.Damaged e w = never w
 
