@@ -45,6 +45,7 @@ pub record Undone (F W : ℕ) (C : State → Type 0) (word : FrameWord → Bool)
   pub frames : (f : ℕ) → f ≢ n → own before f ≡ own s f
   pub undone : Got F W before → Got F W s
 
+-- one frame put otherwise, where calls put it back
 pub undone-put : {F W : ℕ} {C : State → Type 0} {word : FrameWord → Bool} {s t : State} {n : ℕ} {d : FrameWord}
     → FramePut F W s t n d → C t → word d ≡ false → (Got F W t → Got F W s) → Undone F W C word s n
 undone-put {word = word} {t = t} put c w undone =

@@ -1,6 +1,7 @@
 -- A sound state with a slot that has no guest is what the removal of one from there leaves.
 use mathlib.Core.Path.{_≡_, refl, sym, ap, _∙_}
 use mathlib.Core.Logic.{_≢_}
+use mathlib.Core.Bool.{Bool}
 use Prim.Native.Nat.{ℕ, _<_}
 use native.Mathlib.Omega.{arith}
 use borrow.Author.Tests.{ne-eqb}
@@ -23,7 +24,7 @@ module _ {F W : ℕ} {s : State} (i : WordsSound F W s) (v : ℕ) (slot : v < 8)
   row-vacant g l = dead-row i v g slot l (ap (λ (x : Guest). x .live) dead)
 
   -- no frame is that slot's
-  pub unowned : (b : _) (g f : ℕ) → f < F → own s f ≢ frame-word.Owned v b g
+  pub unowned : (b : Bool) (g f : ℕ) → f < F → own s f ≢ frame-word.Owned v b g
   unowned b g f h e =
       let p = i .says v b g f h e in
       let y = sym (row-vacant g (p .1)) ∙ p .2 in
