@@ -4,7 +4,8 @@ use Prim.Native.Nat.{ℕ, _*_}
 use lib.ListN.{replicate}
 use Rattle.records.specs.Monitor.{fresh}
 use Rattle.records.specs.State.{State, state, Answered, answered}
-use Rattle.guest.specs.Calls.{hypercallOf, abortOf}
+use Rattle.guest_hypercalls.specs.Calls.{hypercallOf}
+use Rattle.guest_aborts.specs.Calls.{abortOf}
 use Rattle.host_registers.specs.Registers.{registerReadOf, registerWriteOf}
 use Rattle.host_donation.specs.Calls.{donateOf}
 use Rattle.host_frames.specs.Calls.{clearedOf, hostAccessOf}

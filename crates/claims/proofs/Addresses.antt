@@ -7,13 +7,14 @@ use native.Mathlib.Omega.{arith}
 use borrow.Author.Tests.{leb-true}
 use lib.Dec.{eqb, leb}
 use lib.ListN.{length}
-use Rattle.runs.specs.Run.{took, complete, End, ended, run, told}
+use Rattle.runs.specs.Run.{took, complete, End, ended, run}
 use Rattle.runs.specs.Made.{callsMade, Every}
 use Rattle.runs.proofs.Kept.{Holds, kept}
 use Rattle.runs.proofs.MadeLaws.{made-every}
+use Rattle.runs.proofs.Pieces.{told}
 use Rattle.words.proofs.Booleans.{both-true}
 use Rattle.tables.specs.Length.{framesHold, widthOf, mapHolds, lengthsHold}
-use Rattle.granules.specs.Step.{rangeLimit}
+use Rattle.ranges.specs.Range.{rangeLimit}
 use Rattle.records.specs.declared.answer.Numbers.{Numbers}
 use Rattle.claims.specs.SingleSteps.{RangeCall, numberOf, At, at, singleStep}
 use Rattle.claims.specs.Pieces.{callAt, AddressFits}

@@ -8,7 +8,8 @@ use native.Mathlib.Omega.{arith}
 use borrow.Author.Tests.{ltb-true}
 use lib.Dec.{eqb, ltb}
 use lib.ListN.{length, getD, length-set}
-use Rattle.runs.specs.Run.{Step, took, gated, gate, run}
+use Rattle.runs.specs.Run.{Step, took, gated, run}
+use Rattle.runs.proofs.Gate.{gate}
 use Rattle.words.specs.Granule.{granuleSize, granuleOf, isBase}
 use Rattle.words.proofs.Booleans.{both-true}
 use Rattle.tables.specs.Length.{widthOf, lengthsHold}

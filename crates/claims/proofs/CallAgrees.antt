@@ -8,10 +8,11 @@ use native.Mathlib.Omega.{arith}
 use borrow.Author.Tests.{lt-ltb, ne-eqb}
 use lib.Dec.{ltb}
 use lib.ListN.{length}
-use Rattle.runs.specs.Run.{Step, took, refuses, refused, End, ended, oneMore, onward, run, told, rangeCall}
+use Rattle.runs.specs.Run.{Step, took, refuses, refused, End, ended, oneMore, onward, run}
 use Rattle.runs.proofs.Gate.{passed}
 use Rattle.runs.proofs.Kept.{Holds, kept}
 use Rattle.runs.proofs.Alike.{mapEnd}
+use Rattle.runs.proofs.Pieces.{rangeCall, told}
 use Rattle.words.specs.Granule.{granuleSize, granuleOf, isBase, addressOf}
 use Rattle.words.proofs.Booleans.{and-true, and-false}
 use Rattle.words.proofs.GranuleLaws.{address-granule}
@@ -26,17 +27,19 @@ use Rattle.records.specs.declared.answer.Answer.{Answer}
 use Rattle.records.specs.declared.answer.Answer.the-variants.{BadLength, NoGuest, NeverRun}
 use Rattle.records.specs.declared.answer.Numbers.{Numbers}
 use Rattle.records.proofs.MonitorLaws.{live-slot}
-use Rattle.granules.specs.Step.{rangeLimit, Place, place, Refusal, isDamaged, notDone, tableStep}
+use Rattle.granules.specs.Step.{Place, place, Refusal, isDamaged, notDone, tableStep}
+use Rattle.ranges.specs.Range.{rangeLimit}
 use Rattle.functions.specs.Function.{functionOf, askedBy}
-use Rattle.functions.specs.Table.{errorAnswer, rowOf, actionOf}
+use Rattle.functions.specs.Table.{registers, errorAnswer, callRowOf, actionOf}
 use Rattle.functions.specs.declared.numbers.Function.{Function}
 use Rattle.functions.specs.declared.numbers.Function.the-variants.{Share, Unshare, RangeGuardMap, RangeGuardUnmap}
 use Rattle.functions.specs.declared.actions.Action.the-variants as action
 use Rattle.functions.specs.declared.rows.Error.{Error}
 use Rattle.functions.specs.declared.rows.Error.the-variants.{NotSupported, InvalidParameter}
-use Rattle.guest.specs.Calls.{callerTests, rowTests, finished, actOf, hypercallOf}
+use Rattle.guest_callers.specs.Callers.{callerTests}
+use Rattle.guest_hypercalls.specs.Calls.{rowTests, finished, actOf, hypercallOf}
 use Rattle.claims.specs.SingleSteps.{RangeCall, share, unshare, rangeGuardMap, rangeGuardUnmap, numberOf, errorOf, registersRight, enrolmentRight, At, at, singleStep}
-use Rattle.claims.specs.Pieces.{registers, readCall, callAt}
+use Rattle.claims.specs.Pieces.{readCall, callAt}
 use Rattle.claims.proofs.Took.{step-took}
 use Rattle.claims.proofs.StepAgrees.{operationOf, granuleStep, located, numbersBy, agrees}
 use Rattle.claims.proofs.BeforeGranules.{callRefusal, steps-gated, call-passed, stays}
@@ -87,16 +90,16 @@ tests-read c true true true true true b s done = refl
 
 -- the row of the table, the action and the error of a range call with a count of at least 1
 row-tests : (c : RangeCall) (r0 b m r3 : ℕ) (g : Guest) → 1 ≤ m
-    → rowTests (rowOf (functionBy c)) (registers r0 b m r3) g
+    → rowTests (callRowOf (functionBy c)) (registers r0 b m r3) g
     ≡ (registersRight c b r3, errorAnswer (errorBy c)) ∷ (enrolmentRight c g, errorAnswer (errorBy c)) ∷ []
-unfolding rowOf
+unfolding callRowOf
 row-tests share r0 b m r3 g h = refl
 row-tests unshare r0 b m r3 g h = refl
 row-tests rangeGuardMap r0 b m r3 g h = rw (lt-ltb 0 m h, and-true (isBase b))
 row-tests rangeGuardUnmap r0 b m r3 g h = rw (lt-ltb 0 m h, and-true (isBase b))
 
-row-error : (c : RangeCall) → rowOf (functionBy c) .error ≡ errorBy c
-unfolding rowOf
+row-error : (c : RangeCall) → callRowOf (functionBy c) .error ≡ errorBy c
+unfolding callRowOf
 row-error share = refl
 row-error unshare = refl
 row-error rangeGuardMap = refl
@@ -130,8 +133,8 @@ module _ (c : RangeCall) (r0 : ℕ) (number : r0 % 2 ^ 32 ≡ numberOf c) (v r3 
       let r = registers r0 b m r3 in
       let asks : askedBy r0 ≡ functionBy c = ap functionOf number ∙ number-asked c in
       let done = finished (errorBy c) true (s .monitor) (worked m (at b s)) in
-      ap (λ (f : Function). readCall b (unlessRefused first s (unlessRefused (firstRefusal (rowTests (rowOf f) r guest)) s (actOf v b (rowOf f .error) (actionOf f m) s)))) asks
-      ∙ ap (λ (ts : Tests Answer). readCall b (unlessRefused first s (unlessRefused (firstRefusal ts) s (actOf v b (rowOf (functionBy c) .error) (actionOf (functionBy c) m) s)))) (row-tests c r0 b m r3 guest h)
+      ap (λ (f : Function). readCall b (unlessRefused first s (unlessRefused (firstRefusal (rowTests (callRowOf f) r guest)) s (actOf v b (callRowOf f .error) (actionOf f m) s)))) asks
+      ∙ ap (λ (ts : Tests Answer). readCall b (unlessRefused first s (unlessRefused (firstRefusal ts) s (actOf v b (callRowOf (functionBy c) .error) (actionOf (functionBy c) m) s)))) (row-tests c r0 b m r3 guest h)
       ∙ rw (row-error c, row-action c m h, slot-live (s .monitor) v)
       (tests-read c (lengthsHold (length (s .frames)) (length (s .map))) (guest .live) (guest .run) (registersRight c b r3) (enrolmentRight c guest) b s done)
 

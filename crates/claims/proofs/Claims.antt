@@ -20,11 +20,13 @@ use Rattle.records.specs.Answer.{numbersOf}
 use Rattle.records.specs.State.{State}
 use Rattle.records.specs.declared.monitor.Monitor.{Monitor}
 use Rattle.granules.specs.Kind.{changeOf}
-use Rattle.granules.specs.Step.{rangeLimit, stepFrom}
+use Rattle.granules.specs.Step.{stepFrom}
+use Rattle.ranges.specs.Range.{rangeLimit}
 use Rattle.functions.specs.Function.{functionOf}
-use Rattle.functions.specs.Table.{rowOf, actionOf}
+use Rattle.functions.specs.Table.{registers, callRowOf, actionOf}
 use Rattle.functions.specs.declared.rows.Registers.{Registers}
-use Rattle.guest.specs.Calls.{actOf, hypercallOf, accessOf, abortOf}
+use Rattle.guest_hypercalls.specs.Calls.{actOf, hypercallOf}
+use Rattle.guest_aborts.specs.Calls.{guestAccessOf, abortOf}
 use Rattle.rows.specs.WholeRow.{rowVacant, undamagedFrom, framesFreed, framesNamed}
 use Rattle.host_registers.specs.Registers.{registerNumbered, registerReadOf, registerWriteOf}
 use Rattle.host_donation.specs.Calls.{donateOf}
@@ -35,12 +37,13 @@ use Rattle.calls.specs.Step.{step}
 use Rattle.calls.specs.declared.call.Call.{Call}
 use Rattle.claims.specs.SingleSteps.{RangeCall, numberOf, at, singleStep, singleSteps}
 use Rattle.claims.specs.Refusals.{isRefusal}
-use Rattle.claims.specs.Pieces.{registers, callAt, carriedOn, CountsChanges, AddressFits}
+use Rattle.claims.specs.Pieces.{callAt, carriedOn, CountsChanges, AddressFits}
 use Rattle.claims.specs.R1.{TellsChanges}
 use Rattle.claims.specs.Footprint.{Within}
 use Rattle.claims.specs.HostCalls.{SevenExactly, RowOrEmpty, CountsFrames}
-use Rattle.claims.specs.Cases.{cases, found, expected}
-use Rattle.claims.specs.HostCases.{hostCases, found as foundByHost, expected as expectedByHost}
+use Rattle.claims.specs.Case.{found, expected}
+use Rattle.claims.specs.Cases.{cases}
+use Rattle.claims.specs.HostCases.{hostCases}
 use Rattle.claims.proofs.CallAgrees.{call-agrees}
 use Rattle.claims.proofs.Changes.{single-steps-count}
 use Rattle.claims.proofs.Addresses.{calls-fit}
@@ -105,10 +108,10 @@ remove-counts-frames v s = removal-counts v s
 
 -- "Cases marked * are proved about the rules themselves, together, as one table under one statement"
 pub case-table : map found cases ≡ map expected cases
-unfolding step hypercallOf abortOf actOf accessOf functionOf rowOf actionOf stepFrom changeOf granuleState pairAt mapWordOf frameWordOf mapBits frameBits numbersOf guestOf withGuest framesHold mapHolds
+unfolding step hypercallOf abortOf actOf guestAccessOf functionOf callRowOf actionOf stepFrom changeOf granuleState pairAt mapWordOf frameWordOf mapBits frameBits numbersOf guestOf withGuest framesHold mapHolds
 case-table = refl
 
 -- and cases of the host's calls: each verdict that one can have, in sound and in damaged tables
-pub host-case-table : map foundByHost hostCases ≡ map expectedByHost hostCases
+pub host-case-table : map found hostCases ≡ map expected hostCases
 unfolding step createOf freeFrom donateOf runOf removeOf clearedOf hostAccessOf showOf registerReadOf registerWriteOf registerNumbered rowVacant undamagedFrom framesFreed framesNamed boundsOf frameState pairOf granuleState pairAt mapWordOf frameWordOf mapBits frameBits numbersOf guestOf withGuest framesHold mapHolds
 host-case-table = refl

@@ -1,7 +1,6 @@
 -- A range works upward in the caller's row: each step writes one word of the row, and the frame that this word named when the call began.
 use mathlib.Core.Path.{_≡_, refl, ap, _∙_}
 use mathlib.Core.Bool.{Bool}
-use mathlib.Core.Option.{Option, none, some}
 use mathlib.Core.List.{List}
 use Prim.Native.Nat.{ℕ, suc, _≤_, min}
 use native.Mathlib.Omega.{arith}
@@ -12,19 +11,17 @@ use Rattle.words.specs.Granule.{granuleOf}
 use Rattle.tables.specs.Length.{widthOf}
 use Rattle.tables.specs.Row.{wordIndex, wordAt}
 use Rattle.records.specs.Monitor.{guestOf, enroll}
-use Rattle.records.specs.State.{State, state, Answered}
-use Rattle.records.specs.Tests.{firstRefusal, unlessRefused}
-use Rattle.records.specs.declared.answer.Answer.{Answer}
+use Rattle.records.specs.State.{State, state}
 use Rattle.records.proofs.MonitorLaws.{guest-other, guests-kept}
-use Rattle.granules.specs.Step.{rangeLimit, Place, place, Refusal, tableStep}
+use Rattle.granules.specs.Step.{Place, place, Refusal, tableStep}
+use Rattle.ranges.specs.Range.{rangeLimit}
 use Rattle.granules.specs.declared.kinds.Operation.{Operation}
-use Rattle.functions.specs.Function.{askedBy}
-use Rattle.functions.specs.Table.{rowOf, actionOf}
 use Rattle.functions.specs.declared.rows.Registers.{Registers}
 use Rattle.functions.specs.declared.rows.Error.{Error}
 use Rattle.functions.specs.declared.actions.Action.{Action}
 use Rattle.functions.specs.declared.actions.Action.the-variants as action
-use Rattle.guest.specs.Calls.{callerTests, rowTests, finished, actOf, hypercallOf}
+use Rattle.guest_hypercalls.specs.Calls.{finished, actOf, hypercallOf}
+use Rattle.guest_hypercalls.proofs.HypercallLaws.{hypercall-either}
 use Rattle.claims.specs.Footprint.{Within}
 use Rattle.claims.proofs.Took.{step-took}
 
@@ -99,18 +96,6 @@ act-within v b e (action.Change o n tells) s =
     finished-within v s e tells (run (tableStep o v) (min rangeLimit n) (place (s .map) (s .frames) (granuleOf b)))
     (range-sofar o v s (min rangeLimit n) (granuleOf b))
 
-refused-within : (v : ℕ) (s : State) (r : Option Answer) (done : Answered) → Within v s (done .left) → Within v s (unlessRefused r s done .left)
-refused-within v s none done h = h
-refused-within v s (some a) done h = same-within v s
-
 -- for any state, any lengths and any slot
 pub hypercall-within : (v : ℕ) (r : Registers) (s : State) → Within v s (hypercallOf v r s .left)
-unfolding hypercallOf
-hypercall-within v r s =
-    let caller = guestOf (s .monitor) v in
-    let f = askedBy (r .r0) in
-    let act = actOf v (r .r1) (rowOf f .error) (actionOf f (r .r2)) s in
-    let refusal = firstRefusal (rowTests (rowOf f) r caller) in
-    refused-within v s (firstRefusal (callerTests (length (s .frames)) (length (s .map)) caller)) (unlessRefused refusal s act)
-    (refused-within v s refusal act
-    (act-within v (r .r1) (rowOf f .error) (actionOf f (r .r2)) s))
+hypercall-within v r s = hypercall-either (λ x. Within v s (x .left)) v r s (λ a. same-within v s) (λ e a. act-within v (r .r1) e a s)

@@ -4,8 +4,9 @@ use mathlib.Core.Bool.{Bool, true, false, cond, _&&_}
 use mathlib.Core.List.{[], _∷_}
 use Prim.Native.Nat.{ℕ, zero, suc, _+_, _*_, _-_, _%_, _≤_, _^_, min}
 use native.Mathlib.Omega.{arith}
-use Rattle.runs.specs.Run.{Step, took, refuses as refusing, Stop, complete, refused, End, ended, countOf, oneMore, onward, run, told}
-use Rattle.runs.proofs.Runs.{run-at-most}
+use Rattle.runs.specs.Run.{Step, took, refuses as refusing, Stop, complete, refused, End, ended, oneMore, onward, run}
+use Rattle.runs.proofs.Runs.{countOf, run-at-most}
+use Rattle.runs.proofs.Pieces.{told}
 use lib.ListN.{length}
 use Rattle.words.specs.Granule.{granuleSize, isBase}
 use Rattle.words.proofs.Booleans.{and-false}
@@ -17,17 +18,17 @@ use Rattle.records.specs.Monitor.{guestOf}
 use Rattle.records.specs.declared.answer.Answer.{Answer}
 use Rattle.records.specs.declared.answer.Answer.the-variants.{BadLength, NoGuest, NeverRun}
 use Rattle.records.specs.declared.answer.Numbers.{Numbers}
-use Rattle.granules.specs.Step.{rangeLimit}
+use Rattle.ranges.specs.Range.{rangeLimit}
 use Rattle.functions.specs.Function.{functionOf, askedBy}
-use Rattle.functions.specs.Table.{errorAnswer, row, rowOf, actionOf}
+use Rattle.functions.specs.Table.{registers, errorAnswer, callRow, callRowOf, actionOf}
 use Rattle.functions.specs.declared.numbers.Function.{Function}
 use Rattle.functions.specs.declared.numbers.Function.the-variants.{Share, Unshare, RangeGuardMap, RangeGuardUnmap}
 use Rattle.functions.specs.declared.rows.Rule.the-variants.{Any, NotZero, Base}
 use Rattle.functions.specs.declared.rows.Condition.the-variants.{Enrolment}
 use Rattle.functions.specs.declared.rows.Error.the-variants.{NotSupported}
-use Rattle.guest.specs.Calls.{actOf, hypercallOf}
+use Rattle.guest_hypercalls.specs.Calls.{actOf, hypercallOf}
 use Rattle.claims.specs.SingleSteps.{RangeCall, share, unshare, rangeGuardMap, rangeGuardUnmap, numberOf, At, at, singleStep}
-use Rattle.claims.specs.Pieces.{registers, refuses, callAt, differing, CountsChanges}
+use Rattle.claims.specs.Pieces.{refuses, callAt, differing, CountsChanges}
 use Rattle.claims.specs.R1.{TellsChanges}
 use Rattle.claims.proofs.CallAgrees.{functionBy, number-asked, call-agrees}
 use Rattle.claims.proofs.Changes.{single-steps-count}
@@ -77,7 +78,7 @@ module _ (c : RangeCall) (r0 : ℕ) (number : r0 % 2 ^ 32 ≡ numberOf c) (v b r
       record { done = p .0; none = p .1 }
 
   -- "Count 0 means 1 for share and unshare"
-  zero-is-one : (f : Function) → askedBy r0 ≡ f → actionOf f 0 ≡ actionOf f 1 → rowOf f .r2 ≡ Any → called 0 ≡ called 1
+  zero-is-one : (f : Function) → askedBy r0 ≡ f → actionOf f 0 ≡ actionOf f 1 → callRowOf f .r2 ≡ Any → called 0 ≡ called 1
   unfolding hypercallOf called
   zero-is-one f e same any = rw (e, same, any)
 
@@ -95,7 +96,7 @@ module _ (c : RangeCall) (r0 : ℕ) (number : r0 % 2 ^ 32 ≡ numberOf c) (v b r
   registers-wrong true true false x₄ x₅ done h = refused-tells NeverRun refl
   registers-wrong true true true x₄ x₅ done h = rw h (refused-tells (errorAnswer NotSupported) refl)
 
-  zero-refused : (f : Function) → askedBy r0 ≡ f → rowOf f ≡ row Base NotZero Any Enrolment NotSupported → TellsChanges s (called 0)
+  zero-refused : (f : Function) → askedBy r0 ≡ f → callRowOf f ≡ callRow Base NotZero Any Enrolment NotSupported → TellsChanges s (called 0)
   unfolding hypercallOf called
   zero-refused f e same =
       let guest = guestOf (s .monitor) v in
@@ -104,7 +105,7 @@ module _ (c : RangeCall) (r0 : ℕ) (number : r0 % 2 ^ 32 ≡ numberOf c) (v b r
       (actOf v b NotSupported (actionOf f 0) s) (and-false (isBase b)))
 
   zero-count : TellsChanges s (called 0)
-  unfolding rowOf actionOf
+  unfolding callRowOf actionOf
   zero-count = on c (ap functionOf number ∙ number-asked c)
     where
       on : (c : RangeCall) → askedBy r0 ≡ functionBy c → TellsChanges s (called 0)

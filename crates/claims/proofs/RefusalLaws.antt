@@ -1,28 +1,31 @@
 -- A call tests before it writes, and what it answers once it has written is no refusal.
 use mathlib.Core.Path.{_≡_, refl}
 use mathlib.Core.Bool.{Bool, true}
-use mathlib.Core.Option.{Option, none, some}
+use mathlib.Core.Option.{Option}
 use Prim.Native.Nat.{ℕ, zero, suc, min}
 use native.Mathlib.Omega.{arith}
 use lib.IntN.{pos}
 use lib.ListN.{length}
 use Rattle.runs.specs.Run.{End, ended, run}
 use Rattle.runs.proofs.Runs.{StandsAt, run-none}
+use Rattle.records.proofs.TestLaws.{unless-either}
+use Rattle.guest_hypercalls.proofs.HypercallLaws.{hypercall-either}
 use Rattle.words.specs.Granule.{granuleOf}
 use Rattle.records.specs.Answer.{numbersOf}
 use Rattle.records.specs.Monitor.{guestOf}
-use Rattle.records.specs.State.{State, state, Answered, answered}
+use Rattle.records.specs.State.{State, Answered, answered}
 use Rattle.records.specs.Tests.{firstRefusal, unlessRefused}
 use Rattle.records.specs.declared.answer.Answer.{Answer}
 use Rattle.records.specs.declared.answer.Answer.the-variants.{Done}
-use Rattle.granules.specs.Step.{rangeLimit, Place, place, Refusal, tableStep}
-use Rattle.functions.specs.Function.{askedBy}
-use Rattle.functions.specs.Table.{returned, rowOf, actionOf}
-use Rattle.functions.specs.declared.rows.Registers.{Registers}
+use Rattle.granules.specs.Step.{Place, place, Refusal, tableStep}
+use Rattle.ranges.specs.Range.{rangeLimit}
+use Rattle.functions.specs.Table.{returned}
 use Rattle.functions.specs.declared.rows.Error.{Error}
 use Rattle.functions.specs.declared.actions.Action.{Action}
 use Rattle.functions.specs.declared.actions.Action.the-variants as action
-use Rattle.guest.specs.Calls.{callerTests, rowTests, finished, actOf, hypercallOf, accessOf, abortOf}
+use Rattle.guest_callers.specs.Callers.{callerTests}
+use Rattle.guest_hypercalls.specs.Calls.{finished, actOf}
+use Rattle.guest_aborts.specs.Calls.{guestAccessOf, abortOf}
 use Rattle.host_registers.specs.Registers.{registerNumbered, readTests, writeTests, bitmapTold, registerReadOf, bitmapWritten, registerWriteOf}
 use Rattle.host_donation.specs.Calls.{donateTests, donated, donateOf}
 use Rattle.host_frames.specs.Calls.{accessTests, clearedTests, handedBack, clearedOf, accessTold, hostAccessOf}
@@ -46,11 +49,6 @@ same-kept s a h = refl
 done-kept : (s t : State) (n : ℕ) → KeptRefused s (answered t (Done n))
 unfolding KeptRefused numbersOf
 done-kept s t n h = let z : _≡_ {A = ℕ} 0 1 = cc in absurd (omega arith)
-
-tests-kept : (q : Option Answer) (s : State) (done : Answered) → KeptRefused s done → KeptRefused s (unlessRefused q s done)
-unfolding KeptRefused
-tests-kept none s done h = h
-tests-kept (some a) s done h = λ e. refl
 
 -- R0 = 0 is no refusal
 zero-kept : (s t : State) → KeptRefused s (answered t (returned (pos 0) 0))
@@ -77,39 +75,28 @@ act-kept v b e (action.Change o n tells) s =
     let start = place (s .map) (s .frames) (granuleOf b) in
     range-kept s (granuleOf b) e tells (run (tableStep o v) steps start) (run-none (tableStep o v) steps start)
 
-hypercall-kept : (v : ℕ) (r : Registers) (s : State) → KeptRefused s (hypercallOf v r s)
-unfolding hypercallOf
-hypercall-kept v r s =
-    let caller = guestOf (s .monitor) v in
-    let f = askedBy (r .r0) in
-    let act = actOf v (r .r1) (rowOf f .error) (actionOf f (r .r2)) s in
-    let refusal = firstRefusal (rowTests (rowOf f) r caller) in
-    tests-kept (firstRefusal (callerTests (length (s .frames)) (length (s .map)) caller)) s (unlessRefused refusal s act)
-    (tests-kept refusal s act
-    (act-kept v (r .r1) (rowOf f .error) (actionOf f (r .r2)) s))
-
-abort-kept : (v a : ℕ) (s : State) → KeptRefused s (abortOf v a s)
-unfolding abortOf
-abort-kept v a s =
-    let caller = guestOf (s .monitor) v in
-    let told = accessOf (s .frames) (s .map) v a caller in
-    tests-kept (firstRefusal (callerTests (length (s .frames)) (length (s .map)) caller)) s (answered s told) (same-kept s told)
+-- a call behind its tests
+behind : (q : Option Answer) (s : State) (done : Answered) → KeptRefused s done → KeptRefused s (unlessRefused q s done)
+behind q s done h = unless-either (KeptRefused s) q s done (same-kept s) h
 
 pub step-kept : (c : Call) (s : State) → KeptRefused s (step c s)
-unfolding step createOf donateOf runOf removeOf clearedOf hostAccessOf registerReadOf registerWriteOf
+unfolding step createOf donateOf runOf removeOf clearedOf hostAccessOf registerReadOf registerWriteOf abortOf
 step-kept Create s =
     let v = freeSlot (s .monitor) in
-    tests-kept (firstRefusal (createTests (s .frames) (s .map) v)) s (created v s) (done-kept s _ _)
+    behind (firstRefusal (createTests (s .frames) (s .map) v)) s (created v s) (done-kept s _ _)
 step-kept (Donate v f g) s =
-    tests-kept (firstRefusal (donateTests (s .frames) (s .map) v f g (guestOf (s .monitor) v))) s (donated v f g s) (done-kept s _ _)
-step-kept (Run v) s = tests-kept (firstRefusal (runTests (guestOf (s .monitor) v))) s (ran v s) (done-kept s _ _)
-step-kept (Remove v) s = tests-kept (firstRefusal (removeTests (s .frames) (s .map) v (guestOf (s .monitor) v))) s (removed v s) (done-kept s _ _)
-step-kept (Cleared f) s = tests-kept (firstRefusal (clearedTests (s .frames) (s .map) f)) s (handedBack f s) (done-kept s _ _)
-step-kept (Access f) s = tests-kept (firstRefusal (accessTests (s .frames) (s .map) f)) s (accessTold f s) (same-kept s _)
+    behind (firstRefusal (donateTests (s .frames) (s .map) v f g (guestOf (s .monitor) v))) s (donated v f g s) (done-kept s _ _)
+step-kept (Run v) s = behind (firstRefusal (runTests (guestOf (s .monitor) v))) s (ran v s) (done-kept s _ _)
+step-kept (Remove v) s = behind (firstRefusal (removeTests (s .frames) (s .map) v (guestOf (s .monitor) v))) s (removed v s) (done-kept s _ _)
+step-kept (Cleared f) s = behind (firstRefusal (clearedTests (s .frames) (s .map) f)) s (handedBack f s) (done-kept s _ _)
+step-kept (Access f) s = behind (firstRefusal (accessTests (s .frames) (s .map) f)) s (accessTold f s) (same-kept s _)
 step-kept (Show v) s = same-kept s _
 step-kept (RegisterRead v n) s =
-    tests-kept (firstRefusal (readTests (guestOf (s .monitor) v) (registerNumbered n))) s (bitmapTold v n s) (same-kept s _)
+    behind (firstRefusal (readTests (guestOf (s .monitor) v) (registerNumbered n))) s (bitmapTold v n s) (same-kept s _)
 step-kept (RegisterWrite v n x) s =
-    tests-kept (firstRefusal (writeTests (guestOf (s .monitor) v) (registerNumbered n) x)) s (bitmapWritten v n x s) (done-kept s _ _)
-step-kept (Hypercall v r) s = hypercall-kept v r s
-step-kept (Abort v a) s = abort-kept v a s
+    behind (firstRefusal (writeTests (guestOf (s .monitor) v) (registerNumbered n) x)) s (bitmapWritten v n x s) (done-kept s _ _)
+step-kept (Hypercall v r) s = hypercall-either (KeptRefused s) v r s (same-kept s) (λ e a. act-kept v (r .r1) e a s)
+step-kept (Abort v a) s =
+    let caller = guestOf (s .monitor) v in
+    let told = guestAccessOf (s .frames) (s .map) v a caller in
+    behind (firstRefusal (callerTests (length (s .frames)) (length (s .map)) caller)) s (answered s told) (same-kept s told)

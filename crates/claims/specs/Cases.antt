@@ -4,14 +4,14 @@ use mathlib.Core.List.{List, [], _∷_}
 use Prim.Native.Nat.{ℕ, _+_, _-_, _^_}
 use lib.ListN.{replicate, set}
 use Rattle.records.specs.Monitor.{fresh, withGuest}
-use Rattle.records.specs.Answer.{numbers, verdictWith, numbersOf}
+use Rattle.records.specs.Answer.{numbers, verdictWith}
 use Rattle.records.specs.State.{State, state}
 use Rattle.records.specs.declared.guest.Guest.{Guest}
 use Rattle.records.specs.declared.answer.Numbers.{Numbers}
-use Rattle.calls.specs.Step.{step, stateAfter}
+use Rattle.functions.specs.Table.{registers}
 use Rattle.calls.specs.declared.call.Call.{Call}
 use Rattle.calls.specs.declared.call.Call.the-variants.{Hypercall, Abort}
-use Rattle.claims.specs.Pieces.{registers}
+use Rattle.claims.specs.Case.{Case, case}
 
 -- "Slot 0, F = 256, W = 64, run", granule g private (the frame is 3), the others vacant
 abbrev pub caller : Guest
@@ -19,16 +19,6 @@ caller = record { live = true; run = true; enrolled = false; std = 0; «std_hyp�
 
 abbrev pub bench : ℕ → State
 bench g = state (set (replicate 256 0) 3 (0x01000000 + g)) (set (replicate 512 0) g 0x40000003) (withGuest fresh 0 caller)
-
--- a case: the granule that is private, the calls before, the call, and the numbers of its answer
-pub data Case : Type 0 where
-  case : ℕ → List Call → Call → Numbers → Case
-
-abbrev pub found : Case → Numbers
-found (case g before c n) = numbersOf (step c (stateAfter before (bench g)) .answer)
-
-abbrev pub expected : Case → Numbers
-expected (case g before c n) = n
 
 -- the answers of the sheet: 0 with R1 granules done, −3, −1
 abbrev pub done : ℕ → Numbers
@@ -50,17 +40,17 @@ enroll = hypercall0 0xC6000006 0 0 0
 -- in the sheet's order
 abbrev pub cases : List Case
 cases =
-    case 5 [] (share 0x5000 2) (done 1)
-    ∷ case 5 (share 0x5000 2 ∷ []) (share 0x6000 1) (minus 3)
-    ∷ case 5 [] (share 0x5000 0) (done 1)
-    ∷ case 5 [] (share 0x5001 0) (minus 3)
-    ∷ case 5 [] (hypercall0 0xC6000003 0x5000 0 1) (minus 3)
-    ∷ case 5 [] (share 0xFFFFFFFFFFFFF000 2) (minus 3)
-    ∷ case 63 [] (share 0x3F000 2) (done 1)
-    ∷ case 5 [] (hypercall0 0x1C6000003 0x5000 0 0) (done 1)
-    ∷ case 5 [] (hypercall0 0xC600000C 0 0 0) (minus 1)
-    ∷ case 5 (enroll ∷ []) (hypercall0 0xC600000A 0x7000 0 0) (minus 1)
-    ∷ case 5 (enroll ∷ []) (hypercall0 0xC6000007 0x5000 0 0) (minus 1)
-    ∷ case 5 [] (Abort 0 0x6000) (verdictWith 11 0x6000)
-    ∷ case 5 (enroll ∷ []) (Abort 0 0x6000) (verdictWith 12 0)
+    case (bench 5) [] (share 0x5000 2) (done 1)
+    ∷ case (bench 5) (share 0x5000 2 ∷ []) (share 0x6000 1) (minus 3)
+    ∷ case (bench 5) [] (share 0x5000 0) (done 1)
+    ∷ case (bench 5) [] (share 0x5001 0) (minus 3)
+    ∷ case (bench 5) [] (hypercall0 0xC6000003 0x5000 0 1) (minus 3)
+    ∷ case (bench 5) [] (share 0xFFFFFFFFFFFFF000 2) (minus 3)
+    ∷ case (bench 63) [] (share 0x3F000 2) (done 1)
+    ∷ case (bench 5) [] (hypercall0 0x1C6000003 0x5000 0 0) (done 1)
+    ∷ case (bench 5) [] (hypercall0 0xC600000C 0 0 0) (minus 1)
+    ∷ case (bench 5) (enroll ∷ []) (hypercall0 0xC600000A 0x7000 0 0) (minus 1)
+    ∷ case (bench 5) (enroll ∷ []) (hypercall0 0xC6000007 0x5000 0 0) (minus 1)
+    ∷ case (bench 5) [] (Abort 0 0x6000) (verdictWith 11 0x6000)
+    ∷ case (bench 5) (enroll ∷ []) (Abort 0 0x6000) (verdictWith 12 0)
     ∷ []

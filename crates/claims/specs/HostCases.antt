@@ -4,14 +4,13 @@ use mathlib.Core.List.{List, [], _∷_, _++_}
 use Prim.Native.Nat.{ℕ, _-_, _^_}
 use lib.ListN.{replicate}
 use Rattle.records.specs.Monitor.{zeroGuest, newGuest, markRun}
-use Rattle.records.specs.Answer.{verdictWith, numbersOf}
+use Rattle.records.specs.Answer.{verdictWith}
 use Rattle.records.specs.State.{State, state}
 use Rattle.records.specs.declared.guest.Guest.{Guest}
 use Rattle.records.specs.declared.monitor.Monitor.{Monitor}
 use Rattle.records.specs.declared.answer.Numbers.{Numbers}
-use Rattle.calls.specs.Step.{step, stateAfter}
-use Rattle.calls.specs.declared.call.Call.{Call}
 use Rattle.calls.specs.declared.call.Call.the-variants.{Create, Donate, Run, Remove, Cleared, Access, Show, RegisterRead, RegisterWrite}
+use Rattle.claims.specs.Case.{Case, case}
 
 -- a record that is not live and not zero
 abbrev pub deadNonZero : Guest
@@ -46,16 +45,6 @@ noFrames = state [] rows records
 abbrev pub shortMap : State
 shortMap = state frames (replicate 15 0) records
 
--- a case: the state, the calls before, the call, and the numbers of its answer
-pub data HostCase : Type 0 where
-  hostCase : State → List Call → Call → Numbers → HostCase
-
-abbrev pub found : HostCase → Numbers
-found (hostCase s before c n) = numbersOf (step c (stateAfter before s) .answer)
-
-abbrev pub expected : HostCase → Numbers
-expected (hostCase s before c n) = n
-
 abbrev pub done : ℕ → Numbers
 done a = verdictWith 0 a
 
@@ -67,95 +56,95 @@ abbrev pub minus : ℕ → Numbers
 minus n = verdictWith 9 (2 ^ 64 - n)
 
 -- create, donate
-abbrev pub creations : List HostCase
+abbrev pub creations : List Case
 creations =
-    hostCase sound [] Create (done 2)
+    case sound [] Create (done 2)
     -- the dead record's bitmap is not kept
-    ∷ hostCase sound (Create ∷ []) (RegisterRead 2 2) (done 1)
-    ∷ hostCase sound (Create ∷ []) Create (done 3)
-    ∷ hostCase damaged [] Create (refused 6)
-    ∷ hostCase (state frames rows allLive) [] Create (refused 7)
-    ∷ hostCase (state [] rows allLive) [] Create (refused 1)
-    ∷ hostCase noFrames [] Create (refused 1)
-    ∷ hostCase sound [] (Donate 1 2 1) (done 0)
-    ∷ hostCase sound (Donate 1 2 1 ∷ []) (Access 2) (done 0)
-    ∷ hostCase shortMap [] (Donate 8 4 2) (refused 1)
-    ∷ hostCase sound [] (Donate 8 4 2) (refused 2)
-    ∷ hostCase sound [] (Donate 2 2 1) (refused 2)
-    ∷ hostCase sound [] (Donate 1 4 1) (refused 4)
-    ∷ hostCase damaged [] (Donate 0 0 2) (refused 4)
+    ∷ case sound (Create ∷ []) (RegisterRead 2 2) (done 1)
+    ∷ case sound (Create ∷ []) Create (done 3)
+    ∷ case damaged [] Create (refused 6)
+    ∷ case (state frames rows allLive) [] Create (refused 7)
+    ∷ case (state [] rows allLive) [] Create (refused 1)
+    ∷ case noFrames [] Create (refused 1)
+    ∷ case sound [] (Donate 1 2 1) (done 0)
+    ∷ case sound (Donate 1 2 1 ∷ []) (Access 2) (done 0)
+    ∷ case shortMap [] (Donate 8 4 2) (refused 1)
+    ∷ case sound [] (Donate 8 4 2) (refused 2)
+    ∷ case sound [] (Donate 2 2 1) (refused 2)
+    ∷ case sound [] (Donate 1 4 1) (refused 4)
+    ∷ case damaged [] (Donate 0 0 2) (refused 4)
     -- frame waiting; frame shared; granule guarded; granule private
-    ∷ hostCase sound [] (Donate 1 3 1) (refused 5)
-    ∷ hostCase sound [] (Donate 1 1 1) (refused 5)
-    ∷ hostCase sound [] (Donate 1 2 0) (refused 5)
-    ∷ hostCase sound [] (Donate 0 2 0) (refused 5)
+    ∷ case sound [] (Donate 1 3 1) (refused 5)
+    ∷ case sound [] (Donate 1 1 1) (refused 5)
+    ∷ case sound [] (Donate 1 2 0) (refused 5)
+    ∷ case sound [] (Donate 0 2 0) (refused 5)
     -- granule damaged and frame waiting; frame damaged and granule not vacant
-    ∷ hostCase damaged [] (Donate 0 3 0) (refused 6)
-    ∷ hostCase damaged [] (Donate 0 0 1) (refused 6)
+    ∷ case damaged [] (Donate 0 3 0) (refused 6)
+    ∷ case damaged [] (Donate 0 0 1) (refused 6)
     ∷ []
 
 -- run, remove
-abbrev pub runs : List HostCase
+abbrev pub runs : List Case
 runs =
-    hostCase sound [] (Run 1) (done 0)
-    ∷ hostCase sound [] (Run 0) (done 0)
-    ∷ hostCase sound [] (Run 2) (refused 2)
-    ∷ hostCase noFrames [] (Run 1) (done 0)
+    case sound [] (Run 1) (done 0)
+    ∷ case sound [] (Run 0) (done 0)
+    ∷ case sound [] (Run 2) (refused 2)
+    ∷ case noFrames [] (Run 1) (done 0)
     -- two frames; a guarded granule is none
-    ∷ hostCase sound [] (Remove 0) (done 2)
-    ∷ hostCase sound [] (Remove 1) (done 0)
-    ∷ hostCase sound (Remove 0 ∷ []) (Access 1) (done 0)
-    ∷ hostCase sound (Remove 0 ∷ []) Create (done 0)
-    ∷ hostCase sound (Remove 0 ∷ []) (Remove 0) (refused 2)
-    ∷ hostCase damaged [] (Remove 0) (refused 6)
-    ∷ hostCase damaged [] (Remove 2) (refused 2)
-    ∷ hostCase shortMap [] (Remove 0) (refused 1)
+    ∷ case sound [] (Remove 0) (done 2)
+    ∷ case sound [] (Remove 1) (done 0)
+    ∷ case sound (Remove 0 ∷ []) (Access 1) (done 0)
+    ∷ case sound (Remove 0 ∷ []) Create (done 0)
+    ∷ case sound (Remove 0 ∷ []) (Remove 0) (refused 2)
+    ∷ case damaged [] (Remove 0) (refused 6)
+    ∷ case damaged [] (Remove 2) (refused 2)
+    ∷ case shortMap [] (Remove 0) (refused 1)
     ∷ []
 
 -- cleared, access, show
-abbrev pub looks : List HostCase
+abbrev pub looks : List Case
 looks =
-    hostCase sound [] (Cleared 3) (done 0)
-    ∷ hostCase sound (Cleared 3 ∷ []) (Access 3) (done 1)
-    ∷ hostCase sound (Cleared 3 ∷ []) (Cleared 3) (refused 8)
-    ∷ hostCase sound [] (Cleared 0) (refused 8)
-    ∷ hostCase damaged [] (Cleared 0) (refused 6)
-    ∷ hostCase damaged [] (Cleared 4) (refused 4)
-    ∷ hostCase shortMap [] (Cleared 4) (refused 1)
-    ∷ hostCase sound [] (Access 0) (done 0)
-    ∷ hostCase sound [] (Access 1) (done 1)
-    ∷ hostCase sound [] (Access 2) (done 1)
-    ∷ hostCase sound [] (Access 3) (done 0)
-    ∷ hostCase damaged [] (Access 0) (refused 6)
+    case sound [] (Cleared 3) (done 0)
+    ∷ case sound (Cleared 3 ∷ []) (Access 3) (done 1)
+    ∷ case sound (Cleared 3 ∷ []) (Cleared 3) (refused 8)
+    ∷ case sound [] (Cleared 0) (refused 8)
+    ∷ case damaged [] (Cleared 0) (refused 6)
+    ∷ case damaged [] (Cleared 4) (refused 4)
+    ∷ case shortMap [] (Cleared 4) (refused 1)
+    ∷ case sound [] (Access 0) (done 0)
+    ∷ case sound [] (Access 1) (done 1)
+    ∷ case sound [] (Access 2) (done 1)
+    ∷ case sound [] (Access 3) (done 0)
+    ∷ case damaged [] (Access 0) (refused 6)
     -- a third word that names it does not count
-    ∷ hostCase damaged [] (Access 2) (done 1)
-    ∷ hostCase sound [] (Access (2 ^ 64 - 1)) (refused 4)
-    ∷ hostCase shortMap [] (Access 2) (refused 1)
-    ∷ hostCase sound [] (Show 0) (done 0)
-    ∷ hostCase damaged [] (Show 0) (done 0)
-    ∷ hostCase noFrames [] (Show 0) (done 0)
-    ∷ hostCase sound [] (Show 2) (refused 2)
-    ∷ hostCase shortMap [] (Show 2) (refused 1)
+    ∷ case damaged [] (Access 2) (done 1)
+    ∷ case sound [] (Access (2 ^ 64 - 1)) (refused 4)
+    ∷ case shortMap [] (Access 2) (refused 1)
+    ∷ case sound [] (Show 0) (done 0)
+    ∷ case damaged [] (Show 0) (done 0)
+    ∷ case noFrames [] (Show 0) (done 0)
+    ∷ case sound [] (Show 2) (refused 2)
+    ∷ case shortMap [] (Show 2) (refused 1)
     ∷ []
 
 -- firmware registers
-abbrev pub registers : List HostCase
-registers =
-    hostCase noFrames [] (RegisterRead 1 2) (done 1)
-    ∷ hostCase sound [] (RegisterRead 1 0) (done 0)
-    ∷ hostCase sound [] (RegisterRead 1 3) (minus 2)
-    ∷ hostCase sound [] (RegisterRead 1 (2 ^ 32)) (minus 2)
-    ∷ hostCase sound [] (RegisterRead 2 3) (refused 2)
-    ∷ hostCase sound [] (RegisterWrite 1 2 0) (done 0)
-    ∷ hostCase sound (RegisterWrite 1 2 0 ∷ []) (RegisterRead 1 2) (done 0)
-    ∷ hostCase sound [] (RegisterWrite 1 2 2) (minus 22)
-    ∷ hostCase sound [] (RegisterWrite 1 0 1) (minus 22)
+abbrev pub registerCases : List Case
+registerCases =
+    case noFrames [] (RegisterRead 1 2) (done 1)
+    ∷ case sound [] (RegisterRead 1 0) (done 0)
+    ∷ case sound [] (RegisterRead 1 3) (minus 2)
+    ∷ case sound [] (RegisterRead 1 (2 ^ 32)) (minus 2)
+    ∷ case sound [] (RegisterRead 2 3) (refused 2)
+    ∷ case sound [] (RegisterWrite 1 2 0) (done 0)
+    ∷ case sound (RegisterWrite 1 2 0 ∷ []) (RegisterRead 1 2) (done 0)
+    ∷ case sound [] (RegisterWrite 1 2 2) (minus 22)
+    ∷ case sound [] (RegisterWrite 1 0 1) (minus 22)
     -- after run: another register, a bad value, the same value
-    ∷ hostCase sound [] (RegisterWrite 0 3 1) (minus 2)
-    ∷ hostCase sound [] (RegisterWrite 0 1 1) (minus 22)
-    ∷ hostCase sound [] (RegisterWrite 0 2 1) (minus 16)
-    ∷ hostCase sound [] (RegisterWrite 2 3 1) (refused 2)
+    ∷ case sound [] (RegisterWrite 0 3 1) (minus 2)
+    ∷ case sound [] (RegisterWrite 0 1 1) (minus 22)
+    ∷ case sound [] (RegisterWrite 0 2 1) (minus 16)
+    ∷ case sound [] (RegisterWrite 2 3 1) (refused 2)
     ∷ []
 
-abbrev pub hostCases : List HostCase
-hostCases = creations ++ (runs ++ (looks ++ registers))
+abbrev pub hostCases : List Case
+hostCases = creations ++ (runs ++ (looks ++ registerCases))

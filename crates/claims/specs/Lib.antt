@@ -3,6 +3,7 @@ pub mod SingleSteps
 pub mod Pieces
 pub mod R1
 pub mod Footprint
+pub mod Case
 pub mod Cases
 pub mod HostCalls
 pub mod HostCases

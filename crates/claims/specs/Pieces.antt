@@ -10,12 +10,9 @@ use Rattle.words.specs.Granule.{granuleSize}
 use Rattle.records.specs.Answer.{numbersOf}
 use Rattle.records.specs.State.{State, Answered}
 use Rattle.records.specs.declared.answer.Numbers.{Numbers}
-use Rattle.guest.specs.Calls.{hypercallOf}
-use Rattle.functions.specs.declared.rows.Registers.{Registers}
+use Rattle.guest_hypercalls.specs.Calls.{hypercallOf}
+use Rattle.functions.specs.Table.{registers}
 use Rattle.claims.specs.SingleSteps.{At, at}
-
-abbrev pub registers : ℕ → ℕ → ℕ → ℕ → Registers
-registers a b c d = record { r0 = a; r1 = b; r2 = c; r3 = d }
 
 -- "A call refuses here when its answer isn't verdict 10 with R0 = 0."
 abbrev pub refuses : Numbers → Bool

@@ -5,7 +5,7 @@ use mathlib.Core.Bool.{true, false}
 use Prim.Native.Nat.{_≤_}
 use Rattle.records.specs.Answer.{numbersOf}
 use Rattle.records.specs.State.{State, Answered}
-use Rattle.granules.specs.Step.{rangeLimit}
+use Rattle.ranges.specs.Range.{rangeLimit}
 use Rattle.claims.specs.Pieces.{refuses, differing}
 
 -- A range call found s. With R0 = 0 it did at least one granule, at most 64, and R1 is the number of map words that it changed; with any

@@ -1,6 +1,6 @@
 -- A call changes the record of one slot at the most.
 use mathlib.Core.Path.{_≡_, refl}
-use mathlib.Core.Option.{Option, none, some}
+use mathlib.Core.Option.{Option}
 use Prim.Native.Nat.{ℕ}
 use lib.ListN.{length}
 use Rattle.records.specs.Monitor.{zeroGuest, newGuest, markRun, guestOf, withGuest}
@@ -8,9 +8,11 @@ use Rattle.records.specs.Answer.{numbersOf}
 use Rattle.records.specs.State.{State, Answered, answered}
 use Rattle.records.specs.Tests.{firstRefusal, unlessRefused}
 use Rattle.records.proofs.MonitorLaws.{put-own, put-read}
+use Rattle.records.proofs.TestLaws.{unless-either}
 use Rattle.records.specs.declared.monitor.Monitor.{Monitor}
 use Rattle.records.specs.declared.answer.Answer.{Answer}
-use Rattle.guest.specs.Calls.{callerTests, accessOf, abortOf}
+use Rattle.guest_callers.specs.Callers.{callerTests}
+use Rattle.guest_aborts.specs.Calls.{guestAccessOf, abortOf}
 use Rattle.host_registers.specs.Registers.{registerNumbered, withBitmap, readTests, writeTests, bitmapTold, bitmapWritten, registerReadOf, registerWriteOf}
 use Rattle.host_donation.specs.Calls.{donateTests, donated, donateOf}
 use Rattle.host_frames.specs.Calls.{accessTests, clearedTests, handedBack, clearedOf, accessTold, hostAccessOf}
@@ -24,12 +26,10 @@ OneRecord m v r = withGuest m v (guestOf r v) ≡ r
 -- a refused call changes none
 unless-one : (q : Option Answer) (s : State) (d : Answered) (v : ℕ) → OneRecord (s .monitor) v (d .left .monitor)
     → OneRecord (s .monitor) v (unlessRefused q s d .left .monitor)
-unless-one none s d v h = h
-unless-one (some a) s d v h = put-own (s .monitor) v
+unless-one q s d v h = unless-either (λ x. OneRecord (s .monitor) v (x .left .monitor)) q s d (λ a. put-own (s .monitor) v) h
 
 unless-kept : (q : Option Answer) (s : State) (d : Answered) → d .left .monitor ≡ s .monitor → unlessRefused q s d .left .monitor ≡ s .monitor
-unless-kept none s d h = h
-unless-kept (some a) s d h = refl
+unless-kept q s d h = unless-either (λ x. x .left .monitor ≡ s .monitor) q s d (λ a. refl) h
 
 -- calls that change no record
 pub donate-kept : (v f g : ℕ) (s : State) → donateOf v f g s .left .monitor ≡ s .monitor
@@ -52,7 +52,7 @@ pub abort-kept : (v a : ℕ) (s : State) → abortOf v a s .left .monitor ≡ s 
 unfolding abortOf
 abort-kept v a s =
     let caller = guestOf (s .monitor) v in
-    unless-kept (firstRefusal (callerTests (length (s .frames)) (length (s .map)) caller)) s (answered s (accessOf (s .frames) (s .map) v a caller)) refl
+    unless-kept (firstRefusal (callerTests (length (s .frames)) (length (s .map)) caller)) s (answered s (guestAccessOf (s .frames) (s .map) v a caller)) refl
 
 -- calls that change the record of their slot
 pub run-one : (v : ℕ) (s : State) → OneRecord (s .monitor) v (runOf v s .left .monitor)
@@ -69,12 +69,9 @@ write-one v n x s =
     unless-one (firstRefusal (writeTests (guestOf (s .monitor) v) (registerNumbered n) x)) s (bitmapWritten v n x s) v (put-read (s .monitor) v (withBitmap (registerNumbered n) x (guestOf (s .monitor) v)))
 
 -- create tells its slot in v0; where it is refused, v0 names a slot that is as it was
-created-one : (q : Option Answer) (s : State) (v : ℕ)
-    → OneRecord (s .monitor) (numbersOf (unlessRefused q s (created v s) .answer) .v0) (unlessRefused q s (created v s) .left .monitor)
-unfolding numbersOf
-created-one none s v = put-read (s .monitor) v newGuest
-created-one (some a) s v = put-own (s .monitor) (numbersOf a .v0)
-
 pub create-one : (s : State) → OneRecord (s .monitor) (numbersOf (createOf s .answer) .v0) (createOf s .left .monitor)
-unfolding createOf
-create-one s = let v = freeSlot (s .monitor) in created-one (firstRefusal (createTests (s .frames) (s .map) v)) s v
+unfolding createOf numbersOf
+create-one s =
+    let v = freeSlot (s .monitor) in
+    unless-either (λ x. OneRecord (s .monitor) (numbersOf (x .answer) .v0) (x .left .monitor)) (firstRefusal (createTests (s .frames) (s .map) v)) s (created v s)
+    (λ a. put-own (s .monitor) (numbersOf a .v0)) (put-read (s .monitor) v newGuest)

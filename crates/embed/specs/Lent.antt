@@ -8,7 +8,6 @@ use Rattle.tables.specs.Row.{boundsOf}
 use Rattle.records.specs.Answer.{numbersOf}
 use Rattle.records.specs.State.{State, state, Answered}
 use Rattle.records.specs.declared.monitor.Monitor.{Monitor}
-use Rattle.functions.specs.declared.rows.Registers.{Registers}
 use Rattle.host_guests.specs.Calls.{showOf}
 use Rattle.record_words.specs.Words.{monitorIn, wordsAfter, answerWords}
 
@@ -27,10 +26,6 @@ unfoldable pub lentAfter : (State → Answered) → List ℕ → List ℕ → Li
 lentAfter call w f m =
     let a = call (state f m (monitorIn w)) in
     lent (wordsAfter w (a .left .monitor)) (a .left .frames) (a .left .map) (answerWords (numbersOf (a .answer)))
-
--- R0 to R3
-abbrev pub registers : ℕ → ℕ → ℕ → ℕ → Registers
-registers a b c d = record { r0 = a; r1 = b; r2 = c; r3 = d }
 
 -- where the part of the map table that show hands back begins, and how many words it has; 0 and 0 where it is empty
 abbrev pub partWords : ℕ → Monitor → List ℕ → List ℕ

@@ -1,9 +1,11 @@
 ghost use mathlib.Core.Path.{_≡_};
-ghost use Rattle.guest.specs.Calls.{hypercallOf, abortOf};
-ghost use Rattle.embed.specs.Lent.{lent, lentAfter, registers};
+ghost use Rattle.guest_hypercalls.specs.Calls.{hypercallOf};
+ghost use Rattle.guest_aborts.specs.Calls.{abortOf};
+ghost use Rattle.functions.specs.Table.{registers};
+ghost use Rattle.embed.specs.Lent.{lent, lentAfter};
 use functions::Registers;
-use guest::abort;
-use guest::serve;
+use guest_aborts::abort;
+use guest_hypercalls::serve;
 use record_words::RECORD_WORDS;
 use record_words::guest_in;
 use record_words::monitor_in;

@@ -18,9 +18,13 @@ use Rattle.functions.specs.declared.rows.Condition.{Condition}
 use Rattle.functions.specs.declared.rows.Condition.the-variants.{Nothing, Vendor, Enrolment}
 use Rattle.functions.specs.declared.rows.Error.{Error}
 use Rattle.functions.specs.declared.rows.Error.the-variants.{NotSupported, InvalidParameter}
-use Rattle.functions.specs.declared.rows.Row.{Row}
+use Rattle.functions.specs.declared.rows.CallRow.{CallRow}
 use Rattle.functions.specs.declared.actions.Action.{Action}
 use Rattle.functions.specs.declared.actions.Action.the-variants as action
+
+-- R0 to R3
+abbrev pub registers : ℕ → ℕ → ℕ → ℕ → Registers
+registers a b c d = record { r0 = a; r1 = b; r2 = c; r3 = d }
 
 -- "A base must be a multiple of 4,096."
 abbrev pub meets : Rule → ℕ → Bool
@@ -42,27 +46,27 @@ abbrev pub errorAnswer : Error → Answer
 errorAnswer NotSupported = returned (negsuc 0) 0
 errorAnswer InvalidParameter = returned (negsuc 2) 0
 
-abbrev pub row : Rule → Rule → Rule → Condition → Error → Row
-row a b c d e = record { r1 = a; r2 = b; r3 = c; condition = d; error = e }
+abbrev pub callRow : Rule → Rule → Rule → Condition → Error → CallRow
+callRow a b c d e = record { r1 = a; r2 = b; r3 = c; condition = d; error = e }
 
 -- the columns "Registers looked at" and, of "Answer", what follows "else"; "Features and UID answer NS while VENDOR_HYP bit 0 is clear";
 -- "Guard map and unmap, both kinds, need enrolment"; "a range guard call with count 0 answers NS"
-unfoldable pub rowOf : Function → Row
-rowOf Features = row Any Any Any Vendor NotSupported
-rowOf Uid = row Any Any Any Vendor NotSupported
-rowOf MemoryInfo = row Zero Zero Zero Nothing InvalidParameter
-rowOf Share = row Base Any Zero Nothing InvalidParameter
-rowOf Unshare = row Base Any Zero Nothing InvalidParameter
-rowOf GuardInfo = row Zero Zero Zero Nothing NotSupported
-rowOf Enroll = row Any Any Any Nothing NotSupported
-rowOf GuardMap = row Base Any Any Enrolment NotSupported
-rowOf GuardUnmap = row Base Any Any Enrolment NotSupported
-rowOf Relinquish = row Base Zero Zero Nothing InvalidParameter
-rowOf RangeGuardMap = row Base NotZero Any Enrolment NotSupported
-rowOf RangeGuardUnmap = row Base NotZero Any Enrolment NotSupported
-rowOf Unknown = row Any Any Any Nothing NotSupported
+unfoldable pub callRowOf : Function → CallRow
+callRowOf Features = callRow Any Any Any Vendor NotSupported
+callRowOf Uid = callRow Any Any Any Vendor NotSupported
+callRowOf MemoryInfo = callRow Zero Zero Zero Nothing InvalidParameter
+callRowOf Share = callRow Base Any Zero Nothing InvalidParameter
+callRowOf Unshare = callRow Base Any Zero Nothing InvalidParameter
+callRowOf GuardInfo = callRow Zero Zero Zero Nothing NotSupported
+callRowOf Enroll = callRow Any Any Any Nothing NotSupported
+callRowOf GuardMap = callRow Base Any Any Enrolment NotSupported
+callRowOf GuardUnmap = callRow Base Any Any Enrolment NotSupported
+callRowOf Relinquish = callRow Base Zero Zero Nothing InvalidParameter
+callRowOf RangeGuardMap = callRow Base NotZero Any Enrolment NotSupported
+callRowOf RangeGuardUnmap = callRow Base NotZero Any Enrolment NotSupported
+callRowOf Unknown = callRow Any Any Any Nothing NotSupported
 
-abbrev pub registersHold : Row → Registers → Bool
+abbrev pub registersHold : CallRow → Registers → Bool
 registersHold w r = meets (w .r1) (r .r1) && (meets (w .r2) (r .r2) && meets (w .r3) (r .r3))
 
 -- "Count 0 means 1 for share and unshare"

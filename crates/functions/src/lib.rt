@@ -6,8 +6,8 @@ mod rows;
 
 pub use actions::Action;
 pub use numbers::Function;
+pub use rows::CallRow;
 pub use rows::Condition;
 pub use rows::Error;
 pub use rows::Registers;
-pub use rows::Row;
 pub use rows::Rule;

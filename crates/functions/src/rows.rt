@@ -1,5 +1,5 @@
 ghost use mathlib.Core.Path.{_≡_};
-ghost use Rattle.functions.specs.Table.{meets, permits, errorAnswer, row, rowOf, registersHold};
+ghost use Rattle.functions.specs.Table.{meets, permits, errorAnswer, callRow, callRowOf, registersHold};
 use crate::numbers::Function;
 use records::Answer;
 use records::Guest;
@@ -39,7 +39,7 @@ pub enum Error {
 }
 
 // A row of the table of guest calls: what is asked of R1 to R3 and of the record, and the answer where it does not hold.
-pub struct Row {
+pub struct CallRow {
     pub r1: Rule,
     pub r2: Rule,
     pub r3: Rule,
@@ -95,33 +95,33 @@ impl Error {
 
 impl Function {
     // The row of a call in the table of guest calls.
-    pub fn row(self) -> Row
-        ensures { λ r. ⌜ r ≡ rowOf self ⌝ }
+    pub fn row(self) -> CallRow
+        ensures { λ r. ⌜ r ≡ callRowOf self ⌝ }
     {
         match self {
-            Function::Features => Row::any(Condition::Vendor),
-            Function::Uid => Row::any(Condition::Vendor),
-            Function::MemoryInfo => Row::zeros(Error::InvalidParameter),
-            Function::Share => Row::memory(Rule::Any),
-            Function::Unshare => Row::memory(Rule::Any),
-            Function::GuardInfo => Row::zeros(Error::NotSupported),
-            Function::Enroll => Row::any(Condition::Nothing),
-            Function::GuardMap => Row::guard(Rule::Any),
-            Function::GuardUnmap => Row::guard(Rule::Any),
-            Function::Relinquish => Row::memory(Rule::Zero),
-            Function::RangeGuardMap => Row::guard(Rule::NotZero),
-            Function::RangeGuardUnmap => Row::guard(Rule::NotZero),
-            Function::Unknown => Row::any(Condition::Nothing),
+            Function::Features => CallRow::any(Condition::Vendor),
+            Function::Uid => CallRow::any(Condition::Vendor),
+            Function::MemoryInfo => CallRow::zeros(Error::InvalidParameter),
+            Function::Share => CallRow::memory(Rule::Any),
+            Function::Unshare => CallRow::memory(Rule::Any),
+            Function::GuardInfo => CallRow::zeros(Error::NotSupported),
+            Function::Enroll => CallRow::any(Condition::Nothing),
+            Function::GuardMap => CallRow::guard(Rule::Any),
+            Function::GuardUnmap => CallRow::guard(Rule::Any),
+            Function::Relinquish => CallRow::memory(Rule::Zero),
+            Function::RangeGuardMap => CallRow::guard(Rule::NotZero),
+            Function::RangeGuardUnmap => CallRow::guard(Rule::NotZero),
+            Function::Unknown => CallRow::any(Condition::Nothing),
         }
     }
 }
 
-impl Row {
+impl CallRow {
     // A row that looks at no register.
-    fn any(condition: Condition) -> Row
-        ensures { λ r. ⌜ r ≡ row Rule.Any Rule.Any Rule.Any condition Error.NotSupported ⌝ }
+    fn any(condition: Condition) -> CallRow
+        ensures { λ r. ⌜ r ≡ callRow Rule.Any Rule.Any Rule.Any condition Error.NotSupported ⌝ }
     {
-        Row {
+        CallRow {
             r1: Rule::Any,
             r2: Rule::Any,
             r3: Rule::Any,
@@ -131,10 +131,10 @@ impl Row {
     }
 
     // A row that wants R1 to R3 zero.
-    fn zeros(error: Error) -> Row
-        ensures { λ r. ⌜ r ≡ row Rule.Zero Rule.Zero Rule.Zero Condition.Nothing error ⌝ }
+    fn zeros(error: Error) -> CallRow
+        ensures { λ r. ⌜ r ≡ callRow Rule.Zero Rule.Zero Rule.Zero Condition.Nothing error ⌝ }
     {
-        Row {
+        CallRow {
             r1: Rule::Zero,
             r2: Rule::Zero,
             r3: Rule::Zero,
@@ -144,10 +144,10 @@ impl Row {
     }
 
     // A row of the calls that share, unshare or give up memory.
-    fn memory(r2: Rule) -> Row
-        ensures { λ r. ⌜ r ≡ row Rule.Base r2 Rule.Zero Condition.Nothing Error.InvalidParameter ⌝ }
+    fn memory(r2: Rule) -> CallRow
+        ensures { λ r. ⌜ r ≡ callRow Rule.Base r2 Rule.Zero Condition.Nothing Error.InvalidParameter ⌝ }
     {
-        Row {
+        CallRow {
             r1: Rule::Base,
             r2,
             r3: Rule::Zero,
@@ -157,10 +157,10 @@ impl Row {
     }
 
     // A row of the calls that map or unmap guarded MMIO.
-    fn guard(r2: Rule) -> Row
-        ensures { λ r. ⌜ r ≡ row Rule.Base r2 Rule.Any Condition.Enrolment Error.NotSupported ⌝ }
+    fn guard(r2: Rule) -> CallRow
+        ensures { λ r. ⌜ r ≡ callRow Rule.Base r2 Rule.Any Condition.Enrolment Error.NotSupported ⌝ }
     {
-        Row {
+        CallRow {
             r1: Rule::Base,
             r2,
             r3: Rule::Any,

@@ -1,4 +1,2 @@
 pub mod Kind
 pub mod Step
-pub mod Range
-pub mod Resharing

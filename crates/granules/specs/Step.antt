@@ -1,4 +1,4 @@
--- Document 01, "Guest calls" and "Ranges for demand 3": one granule, and a range of granules in a call.
+-- Document 01, "Guest calls" and "Ranges for demand 3": one granule, by one step.
 use mathlib.Core.Bool.{cond}
 use mathlib.Core.List.{List}
 use Prim.Native.Nat.{ℕ, suc, _+_, _*_}
@@ -16,10 +16,6 @@ use Rattle.granules.specs.declared.kinds.Change.{Change}
 use Rattle.granules.specs.declared.kinds.Change.the-variants.{Damaged, Refused, Bare, WithFrame}
 use Rattle.granules.specs.declared.step.Outcome.{Outcome}
 use Rattle.granules.specs.declared.step.Outcome.the-variants as outcome
-
--- "each stops after 64 granules"
-abbrev pub rangeLimit : ℕ
-rangeLimit = 64
 
 -- where a range stands: the map words, the frame words, and the next granule
 pub data Place : Type 0 where

@@ -3,7 +3,6 @@ ghost use Prim.Native.Nat.{_<_, _^_};
 ghost use Rattle.words.specs.MapWord.{mapBits};
 ghost use Rattle.words.specs.FrameWord.{frameBits};
 ghost use Rattle.granules.specs.Kind.{isOf, wordWith, frameThen, bare, changeOf};
-ghost use Rattle.granules.specs.Resharing.{heldBy};
 use tables::GranuleState;
 use words::FrameWord;
 use words::MapWord;
@@ -20,12 +19,6 @@ pub enum Kind {
 pub struct Operation {
     pub needs: Kind,
     pub makes: Kind,
-}
-
-// What a granule holds, by its kind.
-pub(crate) enum Held {
-    Nothing,
-    Frame { shared: bool },
 }
 
 // What an operation has to write for a granule.
@@ -65,18 +58,6 @@ impl Kind {
                 Kind::Guarded => true,
             },
             GranuleState::Damaged => false,
-        }
-    }
-
-    // What a granule of this kind holds.
-    pub(crate) fn held(self) -> Held
-        ensures { λ r. ⌜ r ≡ heldBy self ⌝ }
-    {
-        match self {
-            Kind::Vacant => Held::Nothing,
-            Kind::Private => Held::Frame { shared: false },
-            Kind::Shared => Held::Frame { shared: true },
-            Kind::Guarded => Held::Nothing,
         }
     }
 

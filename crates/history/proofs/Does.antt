@@ -20,9 +20,9 @@ use Rattle.records.proofs.MonitorLaws.{live-slot}
 use Rattle.granules.specs.Kind.{changeOf, sharing, guarding}
 use Rattle.granules.specs.Step.{place, stepFrom, tableStep}
 use Rattle.functions.specs.Function.{functionOf}
-use Rattle.functions.specs.Table.{rowOf, actionOf}
+use Rattle.functions.specs.Table.{registers, callRowOf, actionOf}
 use Rattle.functions.specs.declared.rows.Registers.{Registers}
-use Rattle.guest.specs.Calls.{actOf, hypercallOf}
+use Rattle.guest_hypercalls.specs.Calls.{actOf, hypercallOf}
 use Rattle.host_registers.specs.Registers.{registerNumbered, bitmapWritten, registerWriteOf}
 use Rattle.host_donation.specs.Calls.{donated, donateOf}
 use Rattle.host_guests.specs.Calls.{freeSlot, createOf, ran, runOf}
@@ -63,7 +63,7 @@ module _ {F W : ℕ} {s : State} (i : WordsSound F W s) where
 
 -- registers of a call at granule g that asks for one granule
 abbrev pub asking : ℕ → ℕ → Registers
-asking number g = record { r0 = number; r1 = addressOf g; r2 = 0; r3 = 0 }
+asking number g = registers number (addressOf g) 0 0
 
 pub asking-fits : (v number g : ℕ) → v < 8 → number < 2 ^ 64 → g < 2 ^ 52 → Fits (Hypercall v (asking number g))
 asking-fits v number g h n l = (omega arith, (n, (omega arith, (omega arith, (omega arith, tt)))))
@@ -76,7 +76,7 @@ module _ {F W : ℕ} {s : State} (i : WordsSound F W s) (v : ℕ) (live : guestO
   slot = live-slot (s .monitor) v live
 
   pub does-enroll : step (Hypercall v (asking 0xC6000006 0)) s .left ≡ state (s .frames) (s .map) (withGuest (s .monitor) v (enroll (guestOf (s .monitor) v)))
-  unfolding step hypercallOf functionOf rowOf actionOf actOf
+  unfolding step hypercallOf functionOf callRowOf actionOf actOf
   does-enroll = rw (lengths-hold (i .sized), live, has-run)
 
   module _ (g : ℕ) (below : g < W) where
@@ -95,7 +95,7 @@ module _ {F W : ℕ} {s : State} (i : WordsSound F W s) (v : ℕ) (live : guestO
     pub does-share : (f : ℕ) → look W s v g ≡ map-word.Frame false f
         → step (Hypercall v (asking 0xC6000003 g)) s .left
         ≡ state (set (s .frames) f (frameBits (frame-word.Owned v true g))) (set (s .map) (v * W + g) (mapBits (map-word.Frame true f))) (s .monitor)
-    unfolding step hypercallOf functionOf rowOf actionOf actOf
+    unfolding step hypercallOf functionOf callRowOf actionOf actOf
     does-share f e = rw (lengths-hold (i .sized), live, has-run, base-is g, granule-address g, shares f e)
 
     guards : look W s v g ≡ map-word.Vacant
@@ -105,5 +105,5 @@ module _ {F W : ℕ} {s : State} (i : WordsSound F W s) (v : ℕ) (live : guestO
 
     pub does-guard : guestOf (s .monitor) v .enrolled ≡ true → look W s v g ≡ map-word.Vacant
         → step (Hypercall v (asking 0xC6000007 g)) s .left ≡ state (s .frames) (set (s .map) (v * W + g) (mapBits map-word.Guarded)) (s .monitor)
-    unfolding step hypercallOf functionOf rowOf actionOf actOf
+    unfolding step hypercallOf functionOf callRowOf actionOf actOf
     does-guard enrolled e = rw (lengths-hold (i .sized), live, has-run, base-is g, enrolled, granule-address g, guards e)

@@ -7,6 +7,7 @@ use lib.Dec.{ltb}
 use lib.ListN.{length}
 use Rattle.runs.specs.Run.{run}
 use Rattle.words.specs.Granule.{granuleOf}
+use Rattle.words.proofs.Booleans.{never}
 use Rattle.tables.specs.Length.{widthOf}
 use Rattle.tables.specs.Pair.{pairAt, granuleUndamaged}
 use Rattle.tables.specs.declared.pairs.GranuleState.{GranuleState}
@@ -19,19 +20,21 @@ use Rattle.records.specs.declared.answer.Answer.the-variants.{MmioExit, Excepti
 use Rattle.records.specs.declared.guest.Guest.{Guest}
 use Rattle.records.proofs.MonitorLaws.{live-slot}
 use Rattle.granules.specs.Kind.{sharing, unsharing, guarding, unguarding, relinquishing}
-use Rattle.granules.specs.Step.{rangeLimit}
+use Rattle.ranges.specs.Range.{rangeLimit}
 use Rattle.granules.specs.declared.kinds.Kind.the-variants.{Vacant, Guarded}
 use Rattle.granules.specs.declared.kinds.Change.the-variants.{Damaged}
 use Rattle.functions.specs.Function.{askedBy}
-use Rattle.functions.specs.Table.{permits, rowOf, atLeastOne, actionOf}
+use Rattle.functions.specs.Table.{permits, callRowOf, atLeastOne, actionOf}
 use Rattle.functions.specs.declared.numbers.Function.{Function}
 use Rattle.functions.specs.declared.numbers.Function.the-variants.{Features, Uid, MemoryInfo, Share, Unshare, GuardInfo, Enroll, GuardMap, GuardUnmap, Relinquish, RangeGuardMap, RangeGuardUnmap, Unknown}
 use Rattle.functions.specs.declared.rows.Registers.{Registers}
 use Rattle.functions.specs.declared.rows.Error.the-variants.{NotSupported, InvalidParameter}
-use Rattle.guest.specs.Calls.{callerTests, rowTests, actOf, hypercallOf, accessAnswer, unbacked, accessOf, abortOf}
+use Rattle.guest_callers.specs.Callers.{callerTests}
+use Rattle.guest_hypercalls.specs.Calls.{rowTests, actOf, hypercallOf}
+use Rattle.guest_aborts.specs.Calls.{accessAnswer, unbacked, guestAccessOf, abortOf}
 use Rattle.calls.specs.declared.call.Call.the-variants.{Hypercall, Abort}
 use Rattle.history.specs.Log.{shared, unshared, relinquished}
-use Rattle.history.proofs.Seen.{never, own, look, lengths-hold}
+use Rattle.history.proofs.Seen.{own, look, lengths-hold}
 use Rattle.history.proofs.WordsSound.{stateBy, WordsSound}
 use Rattle.history.proofs.RecordMoves.{recorded-sound}
 use Rattle.history.proofs.RecordLaws.{enroll-sound, enroll-holds}
@@ -45,9 +48,9 @@ module _ {F W : ℕ} {s : State} (i : WordsSound F W s) (v : ℕ) (r : Registers
   slot = live-slot (s .monitor) v live
 
   -- what each function does where nothing bars it
-  function-kept : (asked : Function) → askedBy (r .r0) ≡ asked → permits (rowOf asked .condition) (guestOf (s .monitor) v) ≡ true
-      → Kept F W s (Hypercall v r) (actOf v (r .r1) (rowOf asked .error) (actionOf asked (r .r2)) s)
-  unfolding actOf actionOf rowOf numbersOf own
+  function-kept : (asked : Function) → askedBy (r .r0) ≡ asked → permits (callRowOf asked .condition) (guestOf (s .monitor) v) ≡ true
+      → Kept F W s (Hypercall v r) (actOf v (r .r1) (callRowOf asked .error) (actionOf asked (r .r2)) s)
+  unfolding actOf actionOf callRowOf numbersOf own
   function-kept Features is may = refused-kept i (Hypercall v r) _ (refl, refl)
   function-kept Uid is may = refused-kept i (Hypercall v r) _ (refl, refl)
   function-kept MemoryInfo is may = refused-kept i (Hypercall v r) _ (refl, refl)
@@ -86,7 +89,7 @@ module _ {F W : ℕ} {s : State} (i : WordsSound F W s) (v : ℕ) where
   keep-hypercall r =
       let g = guestOf (s .monitor) v in
       let asked = askedBy (r .r0) in
-      let w = rowOf asked in
+      let w = callRowOf asked in
       let act = actOf v (r .r1) (w .error) (actionOf asked (r .r2)) s in
       tests-kept i (Hypercall v r) (callerTests (length (s .frames)) (length (s .map)) g) (unlessRefused (firstRefusal (rowTests w r g)) s act)
       (test (sure _ (lengths-hold (i .sized))) λ a. test (λ q. (refl, refl)) λ b. test (λ q. (refl, refl)) λ c. tt)
@@ -110,8 +113,8 @@ found-usual a g granule-state.Guarded h = refl
 found-usual a g granule-state.Damaged h = never h
 
 module _ {F W : ℕ} {s : State} (i : WordsSound F W s) (v : ℕ) where
-  access-usual : (a : ℕ) → v < 8 → usual (numbersOf (accessOf (s .frames) (s .map) v a (guestOf (s .monitor) v))) ≡ true
-  unfolding accessOf
+  access-usual : (a : ℕ) → v < 8 → usual (numbersOf (guestAccessOf (s .frames) (s .map) v a (guestOf (s .monitor) v))) ≡ true
+  unfolding guestAccessOf
   access-usual a slot = on (ltb (granuleOf a) (widthOf (length (s .map)))) refl
     where
       on : (b : Bool) → ltb (granuleOf a) (widthOf (length (s .map))) ≡ b
@@ -125,6 +128,6 @@ module _ {F W : ℕ} {s : State} (i : WordsSound F W s) (v : ℕ) where
   unfolding abortOf numbersOf
   keep-abort a =
       let g = guestOf (s .monitor) v in
-      tests-kept i (Abort v a) (callerTests (length (s .frames)) (length (s .map)) g) (answered s (accessOf (s .frames) (s .map) v a g))
+      tests-kept i (Abort v a) (callerTests (length (s .frames)) (length (s .map)) g) (answered s (guestAccessOf (s .frames) (s .map) v a g))
       (test (sure _ (lengths-hold (i .sized))) λ b. test (λ q. (refl, refl)) λ c. test (λ q. (refl, refl)) λ d. tt)
       (λ p. record { sound = i; logged = λ k l x q. q; usual-verdict = access-usual a (live-slot (s .monitor) v (p .1 .0)) })

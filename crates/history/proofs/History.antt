@@ -24,8 +24,8 @@ use Rattle.records.specs.Monitor.{guestOf, withGuest}
 use Rattle.granules.specs.Kind.{changeOf}
 use Rattle.granules.specs.Step.{stepFrom}
 use Rattle.functions.specs.Function.{functionOf}
-use Rattle.functions.specs.Table.{rowOf, actionOf}
-use Rattle.guest.specs.Calls.{actOf, hypercallOf}
+use Rattle.functions.specs.Table.{callRowOf, actionOf}
+use Rattle.guest_hypercalls.specs.Calls.{actOf, hypercallOf}
 use Rattle.rows.specs.WholeRow.{rowVacant, undamagedFrom, framesFreed, framesNamed}
 use Rattle.host_donation.specs.Calls.{donateOf}
 use Rattle.host_frames.specs.Calls.{openTo, hostAccessOf, clearedOf}
@@ -152,5 +152,5 @@ reachable-exactly s = (reachable-sound s, sound-reachable s)
 
 -- Worked logs: the last change that each says of a frame, and what access then answers.
 pub history-cases : map found logs ≡ map expected logs
-unfolding step createOf freeFrom donateOf runOf removeOf clearedOf hostAccessOf hypercallOf actOf functionOf rowOf actionOf stepFrom changeOf rowVacant undamagedFrom framesFreed framesNamed boundsOf frameState pairOf granuleState pairAt mapWordOf frameWordOf mapBits frameBits numbersOf guestOf withGuest framesHold mapHolds afterHypercall
+unfolding step createOf freeFrom donateOf runOf removeOf clearedOf hostAccessOf hypercallOf actOf functionOf callRowOf actionOf stepFrom changeOf rowVacant undamagedFrom framesFreed framesNamed boundsOf frameState pairOf granuleState pairAt mapWordOf frameWordOf mapBits frameBits numbersOf guestOf withGuest framesHold mapHolds afterHypercall
 history-cases = refl

@@ -5,7 +5,7 @@ use mathlib.Core.List.{[], _∷_}
 use mathlib.Core.Option.{some}
 use Prim.Native.Nat.{ℕ, _<_}
 use lib.Dec.{eqb}
-use Rattle.words.proofs.Booleans.{both-true}
+use Rattle.words.proofs.Booleans.{both-true, never}
 use Rattle.records.specs.Answer.{numbersOf}
 use Rattle.records.specs.State.{State, Answered, answered}
 use Rattle.records.specs.Tests.{Tests, firstRefusal, unlessRefused}
@@ -15,7 +15,7 @@ use Rattle.records.proofs.TestLaws.{Passes}
 use Rattle.calls.specs.declared.call.Call.{Call}
 use Rattle.calls.specs.declared.call.Call.the-variants.{Create, Donate, Run, Remove, Cleared, Access, Show, RegisterRead, RegisterWrite, Hypercall, Abort}
 use Rattle.history.specs.Log.{FrameChange, hostDone, guestDone, afterCall}
-use Rattle.history.proofs.Seen.{never, own}
+use Rattle.history.proofs.Seen.{own}
 use Rattle.history.proofs.WordsSound.{WordsSound}
 use Rattle.history.proofs.Held.{ownerAfter}
 

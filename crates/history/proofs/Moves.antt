@@ -15,10 +15,11 @@ use Rattle.words.specs.declared.frame_word.FrameWord.{FrameWord}
 use Rattle.words.specs.declared.frame_word.FrameWord.the-variants as frame-word
 use Rattle.words.proofs.MapWordLaws.{MapFits}
 use Rattle.words.proofs.FrameWordLaws.{FrameFits}
+use Rattle.words.proofs.Booleans.{never}
 use Rattle.records.specs.Monitor.{guestOf}
 use Rattle.records.specs.State.{State, state}
 use Rattle.history.specs.Sound.{mayHold}
-use Rattle.history.proofs.Seen.{own, look, Sized, at-most, index-below, frame-built, frame-other, map-built, map-other, never}
+use Rattle.history.proofs.Seen.{own, look, Sized, at-most, index-below, frame-built, frame-other, map-built, map-other}
 use Rattle.history.proofs.WordsSound.{stateBy, Says, SaysBack, WordsSound, changed-sound}
 use Rattle.history.proofs.Tied.{Tied, FrameFree, NamesNone, here, is-here, not-here, surely-here, free-sound, free-owned, none-named, free-fits, none-fits}
 

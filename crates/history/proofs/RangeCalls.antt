@@ -20,7 +20,7 @@ use Rattle.functions.specs.declared.numbers.Function.{Function}
 use Rattle.functions.specs.declared.rows.Registers.{Registers}
 use Rattle.functions.specs.declared.rows.Error.{Error}
 use Rattle.functions.specs.declared.rows.Error.the-variants.{NotSupported, InvalidParameter}
-use Rattle.guest.specs.Calls.{finished}
+use Rattle.guest_hypercalls.specs.Calls.{finished}
 use Rattle.calls.specs.declared.call.Call.the-variants.{Hypercall}
 use Rattle.history.specs.Log.{FrameChange, among, changedWhere}
 use Rattle.history.proofs.Seen.{own}

@@ -12,6 +12,7 @@ use Rattle.words.specs.FrameWord.{frameBits}
 use Rattle.words.specs.declared.map_word.MapWord.{MapWord}
 use Rattle.words.specs.declared.map_word.MapWord.the-variants as map-word
 use Rattle.words.specs.declared.frame_word.FrameWord.the-variants as frame-word
+use Rattle.words.proofs.Booleans.{never}
 use Rattle.tables.specs.Length.{widthOf}
 use Rattle.tables.specs.Row.{wordIndex, wordAt}
 use Rattle.tables.specs.Pair.{granuleState}
@@ -30,7 +31,7 @@ use Rattle.granules.specs.declared.kinds.Change.the-variants.{Bare, WithFrame}
 use Rattle.granules.proofs.ChangeLaws.{with-frame, writable}
 use Rattle.history.specs.Log.{among}
 use Rattle.history.specs.Sound.{mayHold}
-use Rattle.history.proofs.Seen.{never, own, look, width-is, at-or-not}
+use Rattle.history.proofs.Seen.{own, look, width-is, at-or-not}
 use Rattle.history.proofs.WordsSound.{stateBy, WordsSound}
 use Rattle.history.proofs.Tied.{Tied, tied-named, tied-apart, NamesNone}
 use Rattle.history.proofs.Moves.{pair-put, granule-put}

@@ -2,6 +2,7 @@
 use mathlib.Core.Path.{_≡_, refl, sym, _∙_}
 use mathlib.Core.Bool.{true, false}
 use Prim.Native.Nat.{ℕ}
+use Rattle.words.proofs.Booleans.{never}
 use Rattle.runs.specs.Run.{run}
 use Rattle.tables.specs.declared.pairs.GranuleState.{GranuleState}
 use Rattle.tables.specs.declared.pairs.GranuleState.the-variants as granule-state
@@ -14,7 +15,6 @@ use Rattle.host_registers.specs.Registers.{withinLimit, bitmapOf, withBitmap}
 use Rattle.host_registers.specs.declared.registers.FirmwareRegister.{FirmwareRegister}
 use Rattle.host_registers.specs.declared.registers.FirmwareRegister.the-variants.{Std, StdHyp, VendorHyp, Unknown}
 use Rattle.history.specs.Sound.{SoundRecord, mayHold}
-use Rattle.history.proofs.Seen.{never}
 
 zero-within : (r : FirmwareRegister) → withinLimit r (bitmapOf r zeroGuest) ≡ true
 zero-within Std = refl

@@ -4,12 +4,13 @@ use mathlib.Core.Logic.{_≢_}
 use mathlib.Core.Bool.{true, false}
 use Prim.Native.Nat.{ℕ, _<_}
 use native.Mathlib.Omega.{arith}
+use Rattle.words.proofs.Booleans.{never}
 use Rattle.records.specs.Monitor.{guestOf, withGuest}
 use Rattle.records.specs.State.{State, state}
 use Rattle.records.specs.declared.guest.Guest.{Guest}
 use Rattle.records.proofs.MonitorLaws.{guest-put, guest-other, guests-kept}
 use Rattle.history.specs.Sound.{SoundRecord, mayHold}
-use Rattle.history.proofs.Seen.{own, look, Sized, at-or-not, never}
+use Rattle.history.proofs.Seen.{own, look, Sized, at-or-not}
 use Rattle.history.proofs.WordsSound.{stateBy, WordsSound, changed-sound}
 use Rattle.history.proofs.Tied.{here}
 

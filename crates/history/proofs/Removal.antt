@@ -17,6 +17,7 @@ use Rattle.words.specs.declared.frame_word.FrameWord.{FrameWord}
 use Rattle.words.specs.declared.frame_word.FrameWord.the-variants as frame-word
 use Rattle.words.proofs.MapWordLaws.{map-decode-encode}
 use Rattle.words.proofs.FrameWordLaws.{frame-decode-encode}
+use Rattle.words.proofs.Booleans.{never}
 use Rattle.tables.specs.Row.{rowOf, withRow}
 use Rattle.tables.proofs.RowLaws.{bounds-slot, row-length, row-word}
 use Rattle.records.specs.Monitor.{zeroGuest, withGuest}
@@ -24,7 +25,7 @@ use Rattle.records.specs.State.{State, state}
 use Rattle.records.proofs.MonitorLaws.{guest-other, guests-kept}
 use Rattle.rows.specs.WholeRow.{vacantRow, framesFreed}
 use Rattle.history.specs.Sound.{SoundRecord}
-use Rattle.history.proofs.Seen.{own, look, width-is, never}
+use Rattle.history.proofs.Seen.{own, look, width-is}
 use Rattle.history.proofs.WordsSound.{WordsSound, changed-sound}
 use Rattle.history.proofs.RecordMoves.{guests-then}
 use Rattle.history.proofs.RecordLaws.{zero-sound}

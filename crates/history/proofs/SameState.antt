@@ -14,12 +14,13 @@ use Rattle.words.specs.declared.map_word.MapWord.the-variants as map-word
 use Rattle.words.specs.declared.frame_word.FrameWord.{FrameWord}
 use Rattle.words.proofs.MapWordLaws.{map-encode-decode}
 use Rattle.words.proofs.FrameWordLaws.{frame-encode-decode}
+use Rattle.words.proofs.Booleans.{never}
 use Rattle.records.specs.Monitor.{zeroGuest, guestOf, withGuest}
 use Rattle.records.specs.State.{State, state}
 use Rattle.records.specs.declared.guest.Guest.{Guest}
 use Rattle.records.specs.declared.monitor.Monitor.{Monitor}
 use Rattle.records.proofs.MonitorLaws.{put-again}
-use Rattle.history.proofs.Seen.{own, look, never}
+use Rattle.history.proofs.Seen.{own, look}
 use Rattle.history.proofs.WordsSound.{WordsSound}
 
 -- every word of n rows is that of a granule of a slot

@@ -1,7 +1,7 @@
 -- What is seen of a state, and of one in which a word or a record was put. Nothing after this file speaks of bits.
 use mathlib.Core.Path.{_≡_, ap}
 use mathlib.Core.Logic.{_≢_}
-use mathlib.Core.Bool.{Bool, true, false}
+use mathlib.Core.Bool.{true}
 use mathlib.Core.List.{List}
 use Prim.Native.Nat.{ℕ, _+_, _*_, _<_, _≤_}
 use native.Mathlib.Decide.{ℕ-discrete, decLt}
@@ -46,9 +46,6 @@ pub at-most : {F W : ℕ} {s : State} → Sized F W s → (F ≤ 16384) × (W �
 at-most {F} {W} z =
     let p = both-true (framesHold F) (mapHolds (8 * W)) (z .bounds) in
     (frames-at-most F (p .0), omega (arith, width-between (8 * W) (p .1)))
-
-pub never : {A : Type 0} → _≡_ {A = Bool} false true → A
-never e = let z : _≡_ {A = ℕ} 0 1 = cc in absurd (omega arith)
 
 -- what holds of one number, and of every other, holds of all
 pub at-or-not : (P : ℕ → Type 0) (n k : ℕ) → P n → (k ≢ n → P k) → P k

@@ -11,7 +11,7 @@ use Rattle.words.specs.declared.map_word.MapWord.{MapWord}
 use Rattle.words.specs.declared.map_word.MapWord.the-variants as map-word
 use Rattle.words.specs.declared.frame_word.FrameWord.{FrameWord}
 use Rattle.words.specs.declared.frame_word.FrameWord.the-variants as frame-word
-use Rattle.words.proofs.Booleans.{both-true, beq-self}
+use Rattle.words.proofs.Booleans.{both-true, beq-self, never}
 use Rattle.words.proofs.FrameWordLaws.{frame-fits}
 use Rattle.tables.specs.Length.{widthOf, framesHold, mapHolds}
 use Rattle.tables.specs.Pair.{frameNamesBack, granuleState, pairAt, granuleNamesBack, frameState, pairOf, frameUndamaged}
@@ -23,7 +23,7 @@ use Rattle.records.specs.Monitor.{guestOf}
 use Rattle.records.specs.State.{State}
 use Rattle.records.specs.declared.guest.Guest.{Guest}
 use Rattle.history.specs.Sound.{mayHold, Sound}
-use Rattle.history.proofs.Seen.{own, look, Sized, lengths-hold, width-is, never}
+use Rattle.history.proofs.Seen.{own, look, Sized, lengths-hold, width-is}
 use Rattle.history.proofs.WordsSound.{stateBy, Says, SaysBack, WordsSound}
 
 module _ {F W : ℕ} {s : State} (z : Sized F W s) where

@@ -10,10 +10,9 @@ use Rattle.words.specs.declared.map_word.MapWord.{MapWord}
 use Rattle.words.specs.declared.map_word.MapWord.the-variants as map-word
 use Rattle.words.specs.declared.frame_word.FrameWord.{FrameWord}
 use Rattle.words.specs.declared.frame_word.FrameWord.the-variants as frame-word
-use Rattle.words.proofs.Booleans.{both-true}
+use Rattle.words.proofs.Booleans.{both-true, never}
 use Rattle.words.proofs.MapWordLaws.{MapFits}
 use Rattle.words.proofs.FrameWordLaws.{FrameFits}
-use Rattle.history.proofs.Seen.{never}
 
 -- granule h of slot u is granule g of slot v
 abbrev pub here : ℕ → ℕ → ℕ → ℕ → Bool

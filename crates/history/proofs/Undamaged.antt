@@ -7,8 +7,10 @@ use Prim.Native.Nat.{ℕ, zero, suc, _<_}
 use native.Mathlib.Omega.{arith}
 use lib.Dec.{ltb}
 use lib.ListN.{length}
-use Rattle.runs.specs.Run.{Step, took, refuses, refused, End, ended, countOf, oneMore, onward, run}
+use Rattle.runs.specs.Run.{Step, took, refuses, refused, End, ended, oneMore, onward, run}
+use Rattle.runs.proofs.Runs.{countOf}
 use Rattle.words.specs.MapWord.{mapWordOf}
+use Rattle.words.proofs.Booleans.{never}
 use Rattle.tables.specs.Length.{widthOf}
 use Rattle.tables.specs.Row.{wordIndex, wordAt}
 use Rattle.tables.specs.Pair.{granuleState, pairAt, granuleUndamaged}
@@ -22,7 +24,7 @@ use Rattle.granules.specs.declared.kinds.Kind.the-variants.{Vacant, Private, Sh
 use Rattle.granules.specs.declared.kinds.Operation.{Operation}
 use Rattle.granules.specs.declared.kinds.Change.{Change}
 use Rattle.granules.specs.declared.kinds.Change.the-variants.{Damaged, Refused, Bare, WithFrame}
-use Rattle.history.proofs.Seen.{never, look, width-is}
+use Rattle.history.proofs.Seen.{look, width-is}
 use Rattle.history.proofs.WordsSound.{WordsSound}
 use Rattle.history.proofs.SoundLaws.{pair-seen}
 use Rattle.history.proofs.Looks.{granule-undamaged, below-width}

@@ -11,13 +11,14 @@ use Rattle.words.specs.declared.map_word.MapWord.{MapWord}
 use Rattle.words.specs.declared.map_word.MapWord.the-variants as map-word
 use Rattle.words.specs.declared.frame_word.FrameWord.{FrameWord}
 use Rattle.words.specs.declared.frame_word.FrameWord.the-variants as frame-word
+use Rattle.words.proofs.Booleans.{never}
 use Rattle.tables.specs.Length.{lengthsHold}
 use Rattle.records.specs.Monitor.{newGuest, guestOf}
 use Rattle.records.specs.State.{State, state}
 use Rattle.records.specs.declared.guest.Guest.{Guest}
 use Rattle.calls.specs.declared.call.Call.the-variants.{Donate}
 use Rattle.history.specs.Sound.{mayHold}
-use Rattle.history.proofs.Seen.{never, own, look, width-is, at-most}
+use Rattle.history.proofs.Seen.{own, look, width-is, at-most}
 use Rattle.history.proofs.WordsSound.{stateBy, Says, WordsSound}
 use Rattle.history.proofs.Tied.{tied-named, tied-apart}
 use Rattle.history.proofs.Moves.{FramePut, GranulePut, pair-put}

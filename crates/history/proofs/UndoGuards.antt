@@ -11,13 +11,14 @@ use Rattle.words.specs.declared.map_word.MapWord.{MapWord}
 use Rattle.words.specs.declared.map_word.MapWord.the-variants as map-word
 use Rattle.words.specs.declared.frame_word.FrameWord.{FrameWord}
 use Rattle.words.specs.declared.frame_word.FrameWord.the-variants as frame-word
+use Rattle.words.proofs.Booleans.{never}
 use Rattle.tables.specs.Length.{lengthsHold}
 use Rattle.records.specs.Monitor.{newGuest, guestOf}
 use Rattle.records.specs.State.{State, state}
 use Rattle.records.specs.declared.guest.Guest.{Guest}
 use Rattle.calls.specs.declared.call.Call.the-variants.{Hypercall}
 use Rattle.history.specs.Sound.{SoundRecord, mayHold}
-use Rattle.history.proofs.Seen.{never, own, look, index-same, index-below, at-most}
+use Rattle.history.proofs.Seen.{own, look, index-same, index-below, at-most}
 use Rattle.history.proofs.WordsSound.{stateBy, WordsSound}
 use Rattle.history.proofs.Moves.{GranulePut, granule-put}
 use Rattle.history.proofs.SameState.{Placed, placed, map-back}

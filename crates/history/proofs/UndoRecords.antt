@@ -7,6 +7,7 @@ use native.Mathlib.Omega.{arith}
 use borrow.Author.Tests.{leb-true, le-leb}
 use Rattle.words.specs.declared.map_word.MapWord.{MapWord}
 use Rattle.words.specs.declared.map_word.MapWord.the-variants as map-word
+use Rattle.words.proofs.Booleans.{never}
 use Rattle.tables.specs.Length.{lengthsHold}
 use Rattle.records.specs.Monitor.{zeroGuest, newGuest, markRun, enroll, guestOf, withGuest}
 use Rattle.records.specs.State.{State, state}
@@ -17,7 +18,7 @@ use Rattle.host_registers.specs.declared.registers.FirmwareRegister.the-variant
 use Rattle.host_removal.specs.Calls.{removed}
 use Rattle.calls.specs.declared.call.Call.the-variants.{Run, Remove, RegisterWrite, Hypercall}
 use Rattle.history.specs.Sound.{SoundRecord, mayHold}
-use Rattle.history.proofs.Seen.{never, own, look, at-or-not}
+use Rattle.history.proofs.Seen.{own, look, at-or-not}
 use Rattle.history.proofs.WordsSound.{stateBy, WordsSound}
 use Rattle.history.proofs.RecordMoves.{recorded-sound}
 use Rattle.history.proofs.RecordLaws.{new-sound, run-sound, bitmap-sound}

@@ -9,11 +9,12 @@ use Rattle.words.specs.FrameWord.{frameBits}
 use Rattle.words.specs.declared.map_word.MapWord.the-variants as map-word
 use Rattle.words.specs.declared.frame_word.FrameWord.{FrameWord}
 use Rattle.words.specs.declared.frame_word.FrameWord.the-variants as frame-word
+use Rattle.words.proofs.Booleans.{never}
 use Rattle.tables.specs.Length.{lengthsHold}
 use Rattle.records.specs.Monitor.{guestOf}
 use Rattle.records.specs.State.{State, state}
 use Rattle.calls.specs.declared.call.Call.the-variants.{Hypercall}
-use Rattle.history.proofs.Seen.{never, own, at-most}
+use Rattle.history.proofs.Seen.{own, at-most}
 use Rattle.history.proofs.WordsSound.{Says, WordsSound}
 use Rattle.history.proofs.Tied.{tied-named}
 use Rattle.history.proofs.Moves.{FramePut, GranulePut, pair-put}

@@ -3,6 +3,7 @@ use mathlib.Core.List.{List, [], _∷_, _++_}
 use Prim.Native.Nat.{ℕ, _*_}
 use Rattle.records.specs.Answer.{numbersOf, verdictWith}
 use Rattle.records.specs.declared.answer.Numbers.{Numbers}
+use Rattle.functions.specs.Table.{registers}
 use Rattle.calls.specs.Step.{step, stateAfter, freshState}
 use Rattle.calls.specs.declared.call.Call.{Call}
 use Rattle.calls.specs.declared.call.Call.the-variants.{Create, Donate, Run, Remove, Cleared, Access, Hypercall}
@@ -29,7 +30,7 @@ found c =
 
 -- a call of slot v at granule g with a count
 abbrev asks : ℕ → ℕ → ℕ → ℕ → Call
-asks v number g n = Hypercall v (record { r0 = number; r1 = g * 4096; r2 = n; r3 = 0 })
+asks v number g n = Hypercall v (registers number (g * 4096) n 0)
 
 -- a guest in slot 0 with frames 3 and 4 at granules 5 and 7, one in slot 1 with frame 9 at granule 5
 abbrev began : List Call

@@ -4,7 +4,7 @@ use mathlib.Core.Bool.{true, false, cond}
 use mathlib.Core.List.{List, []}
 use Prim.Native.Nat.{ℕ, suc, _+_, _-_, _<_, _≤_}
 use native.Mathlib.Omega.{arith}
-use lib.ListN.{length, take}
+use lib.ListN.{length}
 use Rattle.tables.specs.Row.{rowOf}
 use Rattle.records.specs.Monitor.{newGuest, markRun, guestOf, withGuest}
 use Rattle.records.specs.State.{State, state, answered}

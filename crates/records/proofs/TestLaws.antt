@@ -3,7 +3,9 @@ use mathlib.Core.Path.{_≡_, refl}
 use mathlib.Core.Bool.{Bool, true, false, cond}
 use mathlib.Core.List.{[], _∷_, _++_}
 use mathlib.Core.Option.{Option, none, some}
-use Rattle.records.specs.Tests.{Tests, firstRefusal, afterwards}
+use Rattle.records.specs.State.{State, Answered, answered}
+use Rattle.records.specs.Tests.{Tests, firstRefusal, afterwards, unlessRefused}
+use Rattle.records.specs.declared.answer.Answer.{Answer}
 
 pub through : {A : Type 0} (a : Bool) (q : Option A) (r : A) → cond a q (some r) ≡ none → (a ≡ true) × (q ≡ none)
 through true q r h = (refl, h)
@@ -51,3 +53,9 @@ tests-in-order (t ∷ ts) = after-first (t .0) none (t .1) ts ts (tests-in-order
 pub tests-in-order-after : {A : Type 0} (ts us : Tests A) → allAfter (firstRefusal ts) us ≡ firstRefusal (ts ++ us)
 tests-in-order-after [] us = tests-in-order us
 tests-in-order-after (t ∷ ts) us = after-first (t .0) (firstRefusal ts) (t .1) us (ts ++ us) (tests-in-order-after ts us)
+
+-- what holds of the state as found, however it is answered, and of a call's work, holds of the call behind its tests
+pub unless-either : (P : Answered → Type 0) (q : Option Answer) (s : State) (done : Answered) → ((a : Answer) → P (answered s a)) → P done
+    → P (unlessRefused q s done)
+unless-either P none s done same h = h
+unless-either P (some a) s done same h = same a

@@ -1,4 +1,4 @@
-// Replays a trace from standard input to standard output.
+// Replays a trace from standard input to standard output. It rests on replay_stream for all of it.
 fn main() {
     replay_stream::replay(libc::STDIN_FILENO, libc::STDOUT_FILENO);
 }

@@ -1,4 +1,5 @@
 // Logs that end in a record that is not good: each log that an argument names is replayed by itself, as replay does, to standard output.
+// It rests on replay_stream, and on os for its arguments and files.
 use libc::STDOUT_FILENO;
 
 fn replay_file(number: usize) {

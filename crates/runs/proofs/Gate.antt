@@ -2,7 +2,11 @@
 use mathlib.Core.Path.{_≡_, refl, ap}
 use mathlib.Core.Option.{Option, none}
 use Prim.Native.Nat.{ℕ, zero, suc}
-use Rattle.runs.specs.Run.{Step, took, refuses, oneMore, onward, run, gate}
+use Rattle.runs.specs.Run.{Step, took, refuses, oneMore, onward, gated, run}
+
+-- a step behind tests of the state
+abbrev pub gate : {S R : Type 0} → (S → Option R) → (S → Step S R) → S → Step S R
+gate tests step s = gated (tests s) (step s)
 
 module _ {S R : Type 0} (tests : S → Option R) (step : S → Step S R)
     (stays : (s t : S) → tests s ≡ none → step s ≡ took t → tests t ≡ none) where

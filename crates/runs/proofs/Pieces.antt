@@ -5,8 +5,18 @@ use mathlib.Core.List.{List, [], _∷_}
 use Prim.Native.Nat.{ℕ, zero, suc, _+_, _-_, _≤_, min}
 use native.Mathlib.Nat.{le-refl, sub-zero}
 use native.Mathlib.Omega.{arith}
-use Rattle.runs.specs.Run.{Step, took, refuses, complete, outOfFuel, End, ended, sum, oneMore, after, onward, run, told, rangeCall, goOn, carryOn, andThen, pieces, stopOf}
+use Rattle.runs.specs.Run.{Step, took, refuses, complete, outOfFuel, End, ended, sum, oneMore, after, onward, run, goOn, carryOn, andThen, pieces, stopOf}
 use Rattle.runs.proofs.Runs.{resume, resume-one, resumes, joins, run-fuelled}
+
+module _ {S R : Type 0} where
+  -- "If at least one was done it answers 0, and R1 is the number .. If none was done" it refuses
+  abbrev pub told : End S R → End S R
+  told (ended zero s r) = ended zero s r
+  told (ended (suc k) s r) = ended (suc k) s complete
+
+  -- a range call for m steps: it takes at most `limit` of them and tells how many
+  abbrev pub rangeCall : (S → Step S R) → ℕ → ℕ → S → End S R
+  rangeCall step limit m s = told (run step (min limit m) s)
 
 module _ {S R : Type 0} (step : S → Step S R) (limit : ℕ) (some : 1 ≤ limit) (call : ℕ → S → End S R)
     (law : (m : ℕ) (s : S) → 1 ≤ m → call m s ≡ rangeCall step limit m s) where

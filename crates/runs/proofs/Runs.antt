@@ -3,8 +3,12 @@ use mathlib.Core.Path.{_≡_, refl, sym, ap, _∙_}
 use Prim.Native.Nat.{ℕ, zero, suc, _+_, _-_, _≤_}
 use native.Mathlib.Nat.{sub-zero, zero-add, suc-add, suc-sub-suc}
 use native.Mathlib.Omega.{arith}
-use Rattle.runs.specs.Run.{Step, took, refuses, complete, refused, outOfFuel, End, ended, oneMore, after, onward, run, andThen, countOf, stopOf}
+use Rattle.runs.specs.Run.{Step, took, refuses, complete, refused, outOfFuel, End, ended, oneMore, after, onward, run, andThen, stopOf}
 use Rattle.runs.proofs.Ends.{after-zero, after-suc}
+
+-- the steps that were done
+abbrev pub countOf : {S R : Type 0} → End S R → ℕ
+countOf (ended d s r) = d
 
 -- an end with nothing done stands at s
 abbrev pub StandsAt : {S R : Type 0} → S → End S R → Type 0

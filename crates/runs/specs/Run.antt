@@ -2,7 +2,7 @@
 -- A state S holds all that a step changes, its place in the range too; R is a refusal.
 use mathlib.Core.List.{List, [], _∷_}
 use mathlib.Core.Option.{Option, none, some}
-use Prim.Native.Nat.{ℕ, zero, suc, _+_, _-_, min}
+use Prim.Native.Nat.{ℕ, zero, suc, _+_, _-_}
 
 -- one step: the state after it, or a refusal, which leaves the state
 pub data Step (S R : Type 0) : Type 0 where
@@ -24,10 +24,7 @@ sum [] = 0
 sum (m ∷ ms) = m + sum ms
 
 module _ {S R : Type 0} where
-  -- the parts of an end that statements speak of
-  abbrev pub countOf : End S R → ℕ
-  countOf (ended d s r) = d
-
+  -- why a run stopped
   abbrev pub stopOf : End S R → Stop R
   stopOf (ended d s r) = r
 
@@ -35,9 +32,6 @@ module _ {S R : Type 0} where
   abbrev pub gated : Option R → Step S R → Step S R
   gated none o = o
   gated (some r) o = refuses r
-
-  abbrev pub gate : (S → Option R) → (S → Step S R) → S → Step S R
-  gate tests step s = gated (tests s) (step s)
 
   -- an end with one step, or k, done before it
   abbrev pub oneMore : End S R → End S R
@@ -55,15 +49,6 @@ module _ {S R : Type 0} where
   abbrev pub run : (S → Step S R) → ℕ → S → End S R
   run step zero s = ended 0 s complete
   run step (suc n) s = onward (λ t. run step n t) s (step s)
-
-  -- "If at least one was done it answers 0, and R1 is the number .. If none was done" it refuses
-  abbrev pub told : End S R → End S R
-  told (ended zero s r) = ended zero s r
-  told (ended (suc k) s r) = ended (suc k) s complete
-
-  -- a range call for m steps: it takes at most `limit` of them and tells how many
-  abbrev pub rangeCall : (S → Step S R) → ℕ → ℕ → S → End S R
-  rangeCall step limit m s = told (run step (min limit m) s)
 
   -- after a call that did k of a piece of m: "if it doesn't refuse and answers R1 = k below m, carry on m − k"
   abbrev pub goOn : (ℕ → S → End S R) → ℕ → End S R → End S R

@@ -1,6 +1,6 @@
 -- What holds where a pair test finds something: the word that it looked from says so, and a partner that it names says it back.
 use mathlib.Core.Path.{_≡_, refl, _∙_}
-use mathlib.Core.Bool.{Bool, true, false, cond, _&&_}
+use mathlib.Core.Bool.{Bool, true, false, cond}
 use mathlib.Core.List.{List}
 use Prim.Native.Nat.{ℕ, _<_}
 use native.Mathlib.Omega.{arith}
@@ -11,17 +11,15 @@ use Rattle.words.specs.MapWord.{mapWordOf, namesFrame}
 use Rattle.words.specs.FrameWord.{frameWordOf, namesGranule}
 use Rattle.words.specs.declared.map_word.MapWord.{MapWord}
 use Rattle.words.specs.declared.map_word.MapWord.the-variants as map-word
-use Rattle.words.specs.declared.frame_word.FrameWord.{FrameWord}
 use Rattle.words.specs.declared.frame_word.FrameWord.the-variants as frame-word
 use Rattle.words.proofs.Booleans.{both-true}
 use Rattle.words.proofs.MapWordLaws.{named-frame}
 use Rattle.words.proofs.FrameWordLaws.{named-granule}
 use Rattle.tables.specs.Length.{widthOf}
 use Rattle.tables.specs.Row.{wordAt}
-use Rattle.tables.specs.Pair.{frameNamesBack, granuleState, pairAt, granuleNamesBack, frameState, pairOf}
+use Rattle.tables.specs.Pair.{frameNamesBack, granuleState, granuleNamesBack, frameState}
 use Rattle.tables.specs.declared.pairs.GranuleState.{GranuleState}
 use Rattle.tables.specs.declared.pairs.GranuleState.the-variants as granule-state
-use Rattle.tables.specs.declared.pairs.FrameState.{FrameState}
 use Rattle.tables.specs.declared.pairs.FrameState.the-variants as frame-state
 
 -- a test that gives x or y gave y only if it gave no x; where it did not give y, it passed
@@ -35,12 +33,6 @@ mapWordBy granule-state.Vacant = map-word.Vacant
 mapWordBy (granule-state.Frame s f) = map-word.Frame s f
 mapWordBy granule-state.Guarded = map-word.Guarded
 mapWordBy granule-state.Damaged = map-word.Damaged
-
-abbrev pub frameWordBy : FrameState → FrameWord
-frameWordBy frame-state.Host = frame-word.Host
-frameWordBy frame-state.Waiting = frame-word.Waiting
-frameWordBy (frame-state.Owned v s g) = frame-word.Owned v s g
-frameWordBy frame-state.Damaged = frame-word.Damaged
 
 -- granule g of slot v, by what its map word says
 module _ (frames : List ℕ) (v g : ℕ) where
@@ -63,14 +55,6 @@ module _ (frames : List ℕ) (v g : ℕ) where
 
 -- frame f, by what its frame word says
 module _ (map : List ℕ) (f : ℕ) where
-  pub frame-says : (d : FrameWord) (k : FrameState) → k ≡ frameState map f d → (k ≡ frame-state.Damaged → ⊥) → d ≡ frameWordBy k
-  unfolding frameState
-  frame-says frame-word.Host k e n = rw e
-  frame-says frame-word.Waiting k e n = rw e
-  frame-says (frame-word.Owned v s g) k e n =
-      rw (e, passed (granuleNamesBack map v s g f) (frame-state.Owned v s g) frame-state.Damaged (λ q. n (e ∙ q)))
-  frame-says frame-word.Damaged k e n = rw e
-
   pub frame-names : (v g : ℕ) (s : Bool) → frame-state.Owned v s g ≡ frameState map f (frame-word.Owned v s g)
       → (g < widthOf (length map)) × (mapWordOf (wordAt map v g) ≡ map-word.Frame s f)
   unfolding frameState
@@ -79,15 +63,3 @@ module _ (map : List ℕ) (f : ℕ) where
       let t = passed (granuleNamesBack map v s g f) (frame-state.Owned v s g) frame-state.Damaged (λ q. let z : _≡_ {A = ℕ} 0 1 = cc in omega arith) in
       let p = both-true (ltb g (widthOf (length map))) named t in
       (ltb-true g (widthOf (length map)) (p .0), named-frame s f (mapWordOf (wordAt map v g)) (p .1))
-
--- where a pair test from a table finds something, its numbers are in range
-module _ (frames map : List ℕ) where
-  pub granule-there : (v g : ℕ) → (pairAt frames map v g ≡ granule-state.Damaged → ⊥) → (v < 8) × (g < widthOf (length map))
-  unfolding pairAt
-  granule-there v g n =
-      let p = both-true (ltb v 8) (ltb g (widthOf (length map))) (passed (ltb v 8 && ltb g (widthOf (length map))) (granuleState frames v g (mapWordOf (wordAt map v g))) granule-state.Damaged n) in
-      (ltb-true v 8 (p .0), ltb-true g (widthOf (length map)) (p .1))
-
-  pub frame-there : (f : ℕ) → (pairOf frames map f ≡ frame-state.Damaged → ⊥) → f < length frames
-  unfolding pairOf
-  frame-there f n = ltb-true f (length frames) (passed (ltb f (length frames)) (frameState map f (frameWordOf (getD frames f 0))) frame-state.Damaged n)

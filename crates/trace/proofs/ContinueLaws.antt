@@ -13,7 +13,7 @@ use Rattle.trace_records.specs.declared.decoding.Decoded.{Decoded}
 use Rattle.trace_records.specs.declared.decoding.Decoded.the-variants.{Record, Bad, Unfinished}
 use Rattle.trace_lines.proofs.LineLaws.{line-length}
 use Rattle.trace_lines.specs.declared.lines.Line.the-variants.{Answer}
-use Rattle.trace.specs.Replay.{Replay, replay, waiting, unlessStopped, advanceOf, after}
+use Rattle.trace.specs.Replay.{Replay, replay, waiting, unlessStopped, advanceOf, textBefore}
 use Rattle.trace.specs.Contracts.{Continues, Advances}
 use Rattle.trace.specs.declared.session.Advanced.{Advanced}
 use Rattle.trace.proofs.ReplayLaws.{took, outcome-advances, advance-stopped, advance-decoded}
@@ -25,7 +25,7 @@ continues-more : (start r : Replay) (s text : List ℕ) (n : ℕ) → Continues 
     → Continues start s (advanceOf r (drop n s) .left) (n + advanceOf r (drop n s) .taken) (text ++ advanceOf r (drop n s) .text)
 continues-more start r s text n h later =
     h later
-    ∙ ap (λ (o : _). after text o) (outcome-advances r (drop n s) later)
+    ∙ ap (λ (o : _). textBefore text o) (outcome-advances r (drop n s) later)
     ∙ rw (drop-drop (advanceOf r (drop n s) .taken) n s, append-assoc)
 
 -- one record more, as the code made it

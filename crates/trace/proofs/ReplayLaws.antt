@@ -11,7 +11,7 @@ use Rattle.trace_records.specs.declared.decoding.Decoded.{Decoded}
 use Rattle.trace_records.specs.declared.decoding.Decoded.the-variants.{Record, Bad, Unfinished}
 use Rattle.trace_records.proofs.DecodeLaws.{record-size, record-stays}
 use Rattle.trace_records.proofs.BadLaws.{bad-stays}
-use Rattle.trace.specs.Replay.{Replay, replay, Advance, advance, advanceBy, unlessStopped, advanceOf, Outcome, outcome, after, goOn, recordByRecord, outcomeOf}
+use Rattle.trace.specs.Replay.{Replay, replay, Advance, advance, advanceBy, unlessStopped, advanceOf, Outcome, outcome, textBefore, readOn, recordByRecord, outcomeOf}
 
 -- what a record comes to, by what the bytes are
 pub advance-stopped : (r : Replay) (s : List ℕ) → r .stopped ≡ true → advanceOf r s ≡ advance r (length s) [] false
@@ -47,7 +47,7 @@ nothing k r = nothing-by k r (r .stopped) refl
 
 goes-same : (b : Bool) (f g : Replay → List ℕ → Outcome) (a : Advance) (s : List ℕ)
     → (b ≡ true → f (a .left) (drop (a .taken) s) ≡ g (a .left) (drop (a .taken) s))
-    → goOn b f a s ≡ goOn b g a s
+    → readOn b f a s ≡ readOn b g a s
 goes-same true f g a s h = rw (h refl)
 goes-same false f g a s h = refl
 
@@ -65,7 +65,7 @@ enough (suc j) (suc k) r s hj hk =
     enough j k (a .left) (drop (a .taken) s) (simp length-drop (omega arith)) (simp length-drop (omega arith)))
 
 -- the first record, and then the others
-pub one-record : (r : Replay) (s : List ℕ) → outcomeOf r s ≡ goOn (advanceOf r s .more) (λ t b. outcomeOf t b) (advanceOf r s) s
+pub one-record : (r : Replay) (s : List ℕ) → outcomeOf r s ≡ readOn (advanceOf r s .more) (λ t b. outcomeOf t b) (advanceOf r s) s
 unfolding outcomeOf
 one-record r s =
     let a = advanceOf r s in
@@ -80,7 +80,7 @@ stopped-outcome r s e = one-record r s ∙ rw (e, drop-length s)
 
 advances-by : (r : Replay) (s t : List ℕ) (b : Bool) → r .stopped ≡ b → (d : Decoded) → decodeOf s ≡ d
     → outcomeOf r (s ++ t)
-    ≡ after (unlessStopped b r s d .text)
+    ≡ textBefore (unlessStopped b r s d .text)
     (outcomeOf (unlessStopped b r s d .left) (drop (unlessStopped b r s d .taken) s ++ t))
 unfolding advanceOf
 advances-by r s t true e d q = stopped-outcome r (s ++ t) e ∙ rw (stopped-outcome r (drop (length s) s ++ t) e)
@@ -94,6 +94,6 @@ advances-by r s t false e Unfinished q = refl
 
 -- the bytes at hand come to their first record, and then to what is left of them, whatever follows
 pub outcome-advances : (r : Replay) (s t : List ℕ)
-    → outcomeOf r (s ++ t) ≡ after (advanceOf r s .text) (outcomeOf (advanceOf r s .left) (drop (advanceOf r s .taken) s ++ t))
+    → outcomeOf r (s ++ t) ≡ textBefore (advanceOf r s .text) (outcomeOf (advanceOf r s .left) (drop (advanceOf r s .taken) s ++ t))
 unfolding advanceOf
 outcome-advances r s t = advances-by r s t (r .stopped) refl (decodeOf s) refl

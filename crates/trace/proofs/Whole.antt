@@ -16,8 +16,8 @@ use Rattle.records.specs.Answer.{numbersOf}
 use Rattle.granules.specs.Kind.{changeOf}
 use Rattle.granules.specs.Step.{stepFrom}
 use Rattle.functions.specs.Function.{functionOf}
-use Rattle.functions.specs.Table.{rowOf, actionOf}
-use Rattle.guest.specs.Calls.{actOf, hypercallOf}
+use Rattle.functions.specs.Table.{callRowOf, actionOf}
+use Rattle.guest_hypercalls.specs.Calls.{actOf, hypercallOf}
 use Rattle.rows.specs.WholeRow.{rowVacant}
 use Rattle.host_donation.specs.Calls.{donateOf}
 use Rattle.host_guests.specs.Calls.{freeFrom, createOf, runOf}
@@ -28,7 +28,7 @@ use Rattle.trace_records.specs.declared.decoding.Decoded.the-variants.{Record, 
 use Rattle.trace_records.proofs.DecodeLaws.{unfinished-size}
 use Rattle.trace_lines.specs.Line.{numeral, decimal, lineText}
 use Rattle.trace_lines.specs.declared.lines.Line.the-variants.{First}
-use Rattle.trace.specs.Replay.{Replay, Advance, waiting, unlessStopped, advanceOf, after, outcome, outcomeOf, freshReplay, closing, replayText}
+use Rattle.trace.specs.Replay.{Replay, Advance, waiting, unlessStopped, advanceOf, textBefore, outcome, outcomeOf, freshReplay, closing, replayText}
 use Rattle.trace.specs.Contracts.{Continues}
 use Rattle.trace.specs.Cases.{cases, found, expected}
 use Rattle.trace.proofs.ReplayLaws.{one-record}
@@ -49,7 +49,7 @@ pub whole-text : (left : Replay) (log text : List ℕ) (n : ℕ) → Continues f
     → replayText log ≡ lineText First ++ (text ++ closing (left .answered) (length (drop n log)))
 unfolding replayText
 whole-text left log text n h waits =
-    let all : outcomeOf freshReplay log ≡ after text (outcome [] left (drop n log)) =
+    let all : outcomeOf freshReplay log ≡ textBefore text (outcome [] left (drop n log)) =
     rw (append-nil, append-nil, waiting-outcome left (drop n log) waits) at (h []) in
     rw (all, append-nil)
 
@@ -68,5 +68,5 @@ held-at-most r s h = held-by (r .stopped) r s (decodeOf s) refl refl h
 
 -- document 01's example and the empty input
 pub log-cases : map found cases ≡ map expected cases
-unfolding replayText outcomeOf advanceOf decodeOf kindOf lengthOf askedIn numeral decimal step createOf freeFrom donateOf runOf hypercallOf actOf functionOf rowOf actionOf stepFrom changeOf rowVacant boundsOf frameState pairOf granuleState pairAt mapWordOf frameWordOf mapBits frameBits numbersOf guestOf withGuest framesHold mapHolds
+unfolding replayText outcomeOf advanceOf decodeOf kindOf lengthOf askedIn numeral decimal step createOf freeFrom donateOf runOf hypercallOf actOf functionOf callRowOf actionOf stepFrom changeOf rowVacant boundsOf frameState pairOf granuleState pairAt mapWordOf frameWordOf mapBits frameBits numbersOf guestOf withGuest framesHold mapHolds
 log-cases = refl

@@ -9,7 +9,7 @@ use Rattle.trace_lines.specs.Puts.{Puts}
 use Rattle.trace.specs.declared.session.Session.{Session}
 use Rattle.trace.specs.declared.session.Advanced.{Advanced}
 use Rattle.trace.specs.declared.session.Progress.{Progress}
-use Rattle.trace.specs.Replay.{Replay, replay, Advance, waiting, advanceOf, after, outcomeOf}
+use Rattle.trace.specs.Replay.{Replay, replay, Advance, waiting, advanceOf, textBefore, outcomeOf}
 
 -- what a session keeps, with its tables
 abbrev pub kept : Session → List ℕ → List ℕ → Replay
@@ -29,7 +29,7 @@ pub record Advances (a : Advance) (left : Replay) (before : List ℕ) (n : ℕ) 
 -- whatever bytes `later` follow: with n bytes taken and this text written, what is left comes to what all would have come to
 abbrev pub Continues : Replay → List ℕ → Replay → ℕ → List ℕ → Type 0
 Continues start bytes left n text =
-    (later : List ℕ) → outcomeOf start (bytes ++ later) ≡ after text (outcomeOf left (drop n bytes ++ later))
+    (later : List ℕ) → outcomeOf start (bytes ++ later) ≡ textBefore text (outcomeOf left (drop n bytes ++ later))
 
 -- of the bytes at hand: the text that was put goes before what is left; and there is nothing more to answer, or no room for another line
 pub record Replays (start left : Replay) (bytes : List ℕ) (out : List ℕ) (r : Progress) : Type 0 where

@@ -1,7 +1,7 @@
 -- Document 01, "Trace program": a replay record by record, and the whole output of a whole log.
 use mathlib.Core.Bool.{Bool, true, false, cond}
 use mathlib.Core.List.{List, [], _++_}
-use Prim.Native.Nat.{ℕ, zero, suc, _+_, _*_, _%_, _^_}
+use Prim.Native.Nat.{ℕ, zero, suc, _+_, _%_, _^_}
 use lib.Dec.{eqb}
 use lib.ListN.{length, drop}
 use Rattle.records.specs.Answer.{numbersOf}
@@ -27,8 +27,8 @@ abbrev pub freshReplay : Replay
 freshReplay = replay (freshState 256 64) 0 false
 
 -- one record more; a log of 2^64 records can't be had, and the number would begin anew
-abbrev pub oneMore : ℕ → ℕ
-oneMore n = (n + 1) % 2 ^ 64
+abbrev pub nextCount : ℕ → ℕ
+nextCount n = (n + 1) % 2 ^ 64
 
 -- what the record at the head of some bytes comes to: what is kept then, the bytes taken, the text written, whether to go on
 pub record Advance : Type 0 where
@@ -47,7 +47,7 @@ waiting r = advance r 0 [] false
 abbrev pub advanceBy : Replay → List ℕ → Decoded → Advance
 advanceBy r s (Record c n) =
     let a = step c (r .state) in
-    advance (replay (a .left) (oneMore (r .answered)) false) n (lineText (line.Answer (numbersOf (a .answer)))) true
+    advance (replay (a .left) (nextCount (r .answered)) false) n (lineText (line.Answer (numbersOf (a .answer)))) true
 -- "prints `bad` and ends the reading": all bytes are passed over
 advanceBy r s Bad = advance (replay (r .state) (r .answered) true) (length s) (lineText line.Bad) false
 advanceBy r s Unfinished = waiting r
@@ -70,17 +70,17 @@ abbrev pub outcome : List ℕ → Replay → List ℕ → Outcome
 outcome t r s = record { text = t; left = r; rest = s }
 
 -- the same with a text before it
-abbrev pub after : List ℕ → Outcome → Outcome
-after t o = outcome (t ++ o .text) (o .left) (o .rest)
+abbrev pub textBefore : List ℕ → Outcome → Outcome
+textBefore t o = outcome (t ++ o .text) (o .left) (o .rest)
 
-abbrev pub goOn : Bool → (Replay → List ℕ → Outcome) → Advance → List ℕ → Outcome
-goOn true more a s = after (a .text) (more (a .left) (drop (a .taken) s))
-goOn false more a s = outcome (a .text) (a .left) (drop (a .taken) s)
+abbrev pub readOn : Bool → (Replay → List ℕ → Outcome) → Advance → List ℕ → Outcome
+readOn true more a s = textBefore (a .text) (more (a .left) (drop (a .taken) s))
+readOn false more a s = outcome (a .text) (a .left) (drop (a .taken) s)
 
 -- record by record; the first number is fuel, one for each record
 abbrev pub recordByRecord : ℕ → Replay → List ℕ → Outcome
 recordByRecord zero r s = outcome [] r s
-recordByRecord (suc k) r s = let a = advanceOf r s in goOn (a .more) (λ t b. recordByRecord k t b) a s
+recordByRecord (suc k) r s = let a = advanceOf r s in readOn (a .more) (λ t b. recordByRecord k t b) a s
 
 -- a record has a byte at least, so the bytes are fuel enough
 unfoldable pub outcomeOf : Replay → List ℕ → Outcome

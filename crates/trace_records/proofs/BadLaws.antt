@@ -7,7 +7,7 @@ use native.Mathlib.Omega.{arith}
 use borrow.Author.Tests.{ltb-true, ltb-false, eqb-true, eqb-false, le-ltb, ne-eqb}
 use lib.Dec.{eqb, ltb}
 use lib.ListN.{length, length-append}
-use Rattle.words.proofs.Booleans.{both-true, false-unless, and-false}
+use Rattle.words.proofs.Booleans.{both-true, false-unless, and-false, never}
 use Rattle.trace_records.specs.declared.kinds.Kind.{Kind}
 use Rattle.trace_records.specs.declared.decoding.Decoded.{Decoded}
 use Rattle.trace_records.specs.declared.decoding.Decoded.the-variants.{Bad, Unfinished}
@@ -65,18 +65,15 @@ find-fault true false r h = second refl
 find-fault true true false h = third refl
 find-fault true true true h = let z : _≡_ {A = ℕ} 0 1 = cc in absurd (omega arith)
 
-never : {A : Type 0} → true ≡ false → A
-never h = let z : _≡_ {A = ℕ} 0 1 = cc in absurd (omega arith)
-
 one-byte : (a : ℕ) (t : List ℕ) → Fault (eqb a 0) true true → decodeOf (a ∷ t) ≡ Bad
 one-byte a t (first e) = first-fault a t e
-one-byte a t (second e) = never e
-one-byte a t (third e) = never e
+one-byte a t (second e) = never (sym e)
+one-byte a t (third e) = never (sym e)
 
 two-bytes : (a b : ℕ) (t : List ℕ) → Fault (eqb a 0) (someLength b) true → decodeOf (a ∷ b ∷ t) ≡ Bad
 two-bytes a b t (first e) = first-fault a (b ∷ t) e
 two-bytes a b t (second e) = second-fault a b t e
-two-bytes a b t (third e) = never e
+two-bytes a b t (third e) = never (sym e)
 
 three-bytes : (a b v : ℕ) (t : List ℕ) → Fault (eqb a 0) (someLength b) (eqb v 1) → decodeOf (a ∷ b ∷ v ∷ t) ≡ Bad
 three-bytes a b v t (first e) = first-fault a (b ∷ v ∷ t) e

@@ -5,6 +5,7 @@ use mathlib.Core.List.{List, [], _∷_}
 use Prim.Native.Nat.{ℕ, _+_, _*_}
 use lib.Dec.{eqb, ltb}
 use lib.ListN.{length, getD, take, drop}
+use Rattle.functions.specs.Table.{registers}
 use Rattle.calls.specs.declared.call.Call.{Call}
 use Rattle.calls.specs.declared.call.Call.the-variants as call
 use Rattle.trace_records.specs.declared.kinds.Kind.{Kind}
@@ -75,7 +76,7 @@ donationIn s = call.Donate (slotIn s) (argumentIn s 0) (argumentIn s 1)
 
 abbrev pub hypercallIn : List ℕ → Call
 hypercallIn s =
-    call.Hypercall (slotIn s) (record { r0 = argumentIn s 0; r1 = argumentIn s 1; r2 = argumentIn s 2; r3 = argumentIn s 3 })
+    call.Hypercall (slotIn s) (registers (argumentIn s 0) (argumentIn s 1) (argumentIn s 2) (argumentIn s 3))
 
 abbrev pub abortIn : List ℕ → Call
 abortIn s = call.Abort (slotIn s) (argumentIn s 0)

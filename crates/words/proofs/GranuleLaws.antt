@@ -1,7 +1,7 @@
--- Granules and addresses turn into each other without loss, and a step of one granule is a step of 4,096.
+-- Granules and addresses turn into each other without loss.
 use mathlib.Core.Path.{_≡_}
 use mathlib.Core.Bool.{true}
-use Prim.Native.Nat.{ℕ, _+_, _*_, _%_}
+use Prim.Native.Nat.{ℕ, _%_}
 use native.Mathlib.Omega.{arith}
 use borrow.Author.Tests.{eqb-true}
 use Rattle.words.specs.Granule.{granuleSize, granuleOf, isBase, addressOf}
@@ -11,6 +11,3 @@ granule-address g = omega arith
 
 pub address-granule : (a : ℕ) → isBase a ≡ true → addressOf (granuleOf a) ≡ a
 address-granule a h = omega (arith, eqb-true (a % granuleSize) 0 h)
-
-pub granule-next : (a k : ℕ) → granuleOf (a + granuleSize * k) ≡ granuleOf a + k
-granule-next a k = omega arith

@@ -1,5 +1,5 @@
 -- An abort changes no record.
-use Rattle.guest.specs.Calls.{abortOf}
+use Rattle.guest_aborts.specs.Calls.{abortOf}
 use Rattle.embed.proofs.OneRecord.{abort-kept}
 use Rattle.embed.proofs.LentLaws.{lent-kept}
 use borrow.Author.Needs.{needs}

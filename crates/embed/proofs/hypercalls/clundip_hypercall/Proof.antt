@@ -1,8 +1,8 @@
 -- A hypercall looks at the record of its caller alone, and that record is put back.
 use mathlib.Core.Path.{refl}
-use Rattle.guest.specs.Calls.{hypercallOf}
+use Rattle.guest_hypercalls.specs.Calls.{hypercallOf}
 use Rattle.record_words.specs.Words.{monitorIn}
-use Rattle.embed.specs.Lent.{registers}
+use Rattle.functions.specs.Table.{registers}
 use Rattle.embed.proofs.LentLaws.{lent-done}
 use borrow.Author.Needs.{needs}
 use Rattle.embed.proofs.hypercalls.clundip_hypercall.Statement.{statement}

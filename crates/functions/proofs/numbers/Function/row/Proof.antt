@@ -1,5 +1,5 @@
 -- Row by row.
-use Rattle.functions.specs.Table.{rowOf}
+use Rattle.functions.specs.Table.{callRowOf}
 use borrow.Author.Needs.{needs}
 use Rattle.functions.proofs.numbers.Function.row.Statement.{statement}
 use Rattle.functions.proofs.numbers.Function.row.Tie as tie
@@ -83,55 +83,55 @@ any-requires-4 : tie.Need-any-requires-4
 any-requires-4 c κs = search needs
 
 returns : tie.Need-returns
-unfolding rowOf
+unfolding callRowOf
 returns c = rw (c .before .enum-told .given .1) (c .any .ensures)
 
 returns-2 : tie.Need-returns-2
-unfolding rowOf
+unfolding callRowOf
 returns-2 c = rw (c .before .enum-told2 .given .1) (c .any2 .ensures)
 
 returns-3 : tie.Need-returns-3
-unfolding rowOf
+unfolding callRowOf
 returns-3 c = rw (c .before .enum-told3 .given .1) (c .zeros .ensures)
 
 returns-4 : tie.Need-returns-4
-unfolding rowOf
+unfolding callRowOf
 returns-4 c = rw (c .before .enum-told4 .given .1) (c .memory .ensures)
 
 returns-5 : tie.Need-returns-5
-unfolding rowOf
+unfolding callRowOf
 returns-5 c = rw (c .before .enum-told5 .given .1) (c .memory2 .ensures)
 
 returns-6 : tie.Need-returns-6
-unfolding rowOf
+unfolding callRowOf
 returns-6 c = rw (c .before .enum-told6 .given .1) (c .zeros2 .ensures)
 
 returns-7 : tie.Need-returns-7
-unfolding rowOf
+unfolding callRowOf
 returns-7 c = rw (c .before .enum-told7 .given .1) (c .any3 .ensures)
 
 returns-8 : tie.Need-returns-8
-unfolding rowOf
+unfolding callRowOf
 returns-8 c = rw (c .before .enum-told8 .given .1) (c .guard .ensures)
 
 returns-9 : tie.Need-returns-9
-unfolding rowOf
+unfolding callRowOf
 returns-9 c = rw (c .before .enum-told9 .given .1) (c .guard2 .ensures)
 
 returns-10 : tie.Need-returns-10
-unfolding rowOf
+unfolding callRowOf
 returns-10 c = rw (c .before .enum-told10 .given .1) (c .memory3 .ensures)
 
 returns-11 : tie.Need-returns-11
-unfolding rowOf
+unfolding callRowOf
 returns-11 c = rw (c .before .enum-told11 .given .1) (c .guard3 .ensures)
 
 returns-12 : tie.Need-returns-12
-unfolding rowOf
+unfolding callRowOf
 returns-12 c = rw (c .before .enum-told12 .given .1) (c .guard4 .ensures)
 
 returns-13 : tie.Need-returns-13
-unfolding rowOf
+unfolding callRowOf
 returns-13 c = rw (c .before .enum-told13 .given .1) (c .any4 .ensures)
 
 pub row-spec : {M : Type 1} → statement M

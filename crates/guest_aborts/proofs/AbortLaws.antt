@@ -1,0 +1,50 @@
+-- How an abort comes out, by the tests that its code makes on the way.
+use mathlib.Core.Path.{_≡_}
+use mathlib.Core.List.{List}
+use Prim.Native.Nat.{ℕ, _<_, _≤_}
+use borrow.Author.Tests.{lt-ltb, le-ltb}
+use lib.ListN.{length, getD}
+use Rattle.words.specs.Granule.{granuleOf}
+use Rattle.words.specs.MapWord.{mapWordOf}
+use Rattle.tables.specs.Length.{widthOf}
+use Rattle.tables.specs.Row.{rowOf}
+use Rattle.tables.specs.Pair.{granuleState}
+use Rattle.tables.specs.declared.pairs.GranuleState.{GranuleState}
+use Rattle.tables.proofs.RowLaws.{in-row, off-row}
+use Rattle.tables.proofs.PairLaws.{granule-in-row}
+use Rattle.records.specs.Monitor.{guestOf}
+use Rattle.records.specs.State.{State, answered}
+use Rattle.records.specs.Tests.{firstRefusal, refusalBy}
+use Rattle.records.specs.declared.guest.Guest.{Guest}
+use Rattle.records.specs.declared.answer.Answer.{Answer}
+use Rattle.records.specs.declared.admission.Admission.{Admission}
+use Rattle.records.specs.declared.admission.Admission.the-variants as admission
+use Rattle.guest_callers.specs.Callers.{callerTests}
+use Rattle.guest_callers.proofs.CallerLaws.{caller-tested}
+use Rattle.guest_aborts.specs.Calls.{unbacked, accessAnswer, guestAccessOf, abortOf}
+
+-- a call of slot v whose record is g, by the admission that verdicts 1 to 3 gave it
+module _ (v : ℕ) (s : State) (g : Guest) (e : g ≡ guestOf (s .monitor) v) (x : Admission)
+    (t : refusalBy x ≡ firstRefusal (callerTests (length (s .frames)) (length (s .map)) g)) where
+  tested : firstRefusal (callerTests (length (s .frames)) (length (s .map)) (guestOf (s .monitor) v)) ≡ refusalBy x
+  tested = caller-tested v s g e x t
+
+  pub abort-refused : (ipa : ℕ) (a : Answer) → x ≡ admission.Refused a → answered s a ≡ abortOf v ipa s
+  unfolding abortOf
+  abort-refused ipa a p = rw (tested, p)
+
+  pub abort-passed : (ipa : ℕ) (a : Answer) → x ≡ admission.Passed → a ≡ guestAccessOf (s .frames) (s .map) v ipa g → answered s a ≡ abortOf v ipa s
+  unfolding abortOf
+  abort-passed ipa a p q = rw (tested, p, q, e)
+
+-- an access of slot v, whose row is `words`, in the granule g that holds the address
+module _ (frames map : List ℕ) (v : ℕ) (h : v < 8) (words : List ℕ) (e : words ≡ rowOf map v) (a g : ℕ) (eg : g ≡ granuleOf a) (guest : Guest) where
+  pub access-beyond : length words ≤ g → unbacked a guest ≡ guestAccessOf frames map v a guest
+  unfolding guestAccessOf
+  access-beyond l = rw (← eg, le-ltb g (widthOf (length map)) (off-row map v g words e l h))
+
+  pub access-within : g < length words → (k d : GranuleState) → k ≡ granuleState frames v g (mapWordOf (getD words g 0)) → k ≡ d
+      → accessAnswer a guest d ≡ guestAccessOf frames map v a guest
+  unfolding guestAccessOf
+  access-within l k d ek o =
+      rw (← eg, lt-ltb g (widthOf (length map)) (in-row map v g words e l .granule), ← granule-in-row frames map v g words e l, ← ek, o)

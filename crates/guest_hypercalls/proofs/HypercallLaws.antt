@@ -1,0 +1,74 @@
+-- How a hypercall comes out, by the tests that its code makes on the way.
+use mathlib.Core.Path.{_≡_, refl, sym, _∙_}
+use mathlib.Core.Bool.{Bool, cond}
+use Prim.Native.Nat.{ℕ, zero, suc, _<_}
+use native.Mathlib.Omega.{arith}
+use lib.IntN.{pos}
+use lib.ListN.{length}
+use Rattle.runs.specs.Run.{Stop}
+use Rattle.records.specs.Monitor.{guestOf, withGuest}
+use Rattle.records.specs.State.{State, state, Answered, answered}
+use Rattle.records.specs.Tests.{firstRefusal, refusalBy, unlessRefused}
+use Rattle.records.specs.declared.guest.Guest.{Guest}
+use Rattle.records.specs.declared.answer.Answer.{Answer}
+use Rattle.records.specs.declared.admission.Admission.{Admission}
+use Rattle.records.specs.declared.admission.Admission.the-variants as admission
+use Rattle.records.proofs.MonitorLaws.{put-own}
+use Rattle.records.proofs.TestLaws.{unless-either}
+use Rattle.granules.specs.Step.{Refusal}
+use Rattle.guest_callers.specs.Callers.{callerTests}
+use Rattle.guest_callers.proofs.CallerLaws.{caller-tested}
+use Rattle.functions.specs.Function.{askedBy}
+use Rattle.functions.specs.Table.{returned, callRowOf, actionOf}
+use Rattle.functions.specs.declared.numbers.Function.{Function}
+use Rattle.functions.specs.declared.rows.Registers.{Registers}
+use Rattle.functions.specs.declared.rows.Error.{Error}
+use Rattle.functions.specs.declared.rows.CallRow.{CallRow}
+use Rattle.functions.specs.declared.actions.Action.{Action}
+use Rattle.guest_hypercalls.specs.Calls.{rowTests, doneAnswer, actOf, hypercallOf}
+
+-- a refused call leaves the record that it was called with
+pub as-found : (v : ℕ) (s : State) {g : Guest} → g ≡ guestOf (s .monitor) v → {a : Answer} {done : Answered} → answered s a ≡ done
+    → answered (state (s .frames) (s .map) (withGuest (s .monitor) v g)) a ≡ done
+as-found v s e h = rw (e, put-own (s .monitor) v) h
+
+-- a call of slot v whose record is g, by the admission that verdicts 1 to 3 gave it
+module _ (v : ℕ) (s : State) (g : Guest) (e : g ≡ guestOf (s .monitor) v) (x : Admission)
+    (t : refusalBy x ≡ firstRefusal (callerTests (length (s .frames)) (length (s .map)) g)) where
+  tested : firstRefusal (callerTests (length (s .frames)) (length (s .map)) (guestOf (s .monitor) v)) ≡ refusalBy x
+  tested = caller-tested v s g e x t
+
+  pub call-refused : (r : Registers) (a : Answer) → x ≡ admission.Refused a → answered s a ≡ hypercallOf v r s
+  unfolding hypercallOf
+  call-refused r a p = rw (tested, p)
+
+  -- and by the admission that the row of its function gave it
+  module _ (p : x ≡ admission.Passed) (r : Registers) (f : Function) (ef : f ≡ askedBy (r .r0)) (w : CallRow) (ew : w ≡ callRowOf f) (y : Admission)
+      (u : refusalBy y ≡ firstRefusal (rowTests w r g)) where
+    row-tested : firstRefusal (rowTests (callRowOf (askedBy (r .r0))) r (guestOf (s .monitor) v)) ≡ refusalBy y
+    row-tested = rw (← ef, ← ew, ← e) (sym u)
+
+    pub row-refused : (a : Answer) → y ≡ admission.Refused a → answered s a ≡ hypercallOf v r s
+    unfolding hypercallOf
+    row-refused a q = rw (tested, p, row-tested, q)
+
+    pub row-passed : y ≡ admission.Passed → (z : Action) → z ≡ actionOf f (r .r2) → (done : Answered) → done ≡ actOf v (r .r1) (w .error) z s → done ≡ hypercallOf v r s
+    unfolding hypercallOf
+    row-passed q z ez done ed = ed ∙ rw (tested, p, row-tested, q, ← ef, ← ew, ez)
+
+-- what is told of granules that were done
+pub some-done : (e : Error) (tells : Bool) (k : ℕ) (r : Stop Refusal) → 0 < k → returned (pos 0) (cond tells k 0) ≡ doneAnswer e tells k r
+some-done e tells zero r h = absurd (omega arith)
+some-done e tells (suc k) r h = refl
+
+-- what holds of the state as found, however it is answered, and of whatever a hypercall does, holds of every hypercall
+pub hypercall-either : (P : Answered → Type 0) (v : ℕ) (r : Registers) (s : State) → ((a : Answer) → P (answered s a))
+    → ((e : Error) (a : Action) → P (actOf v (r .r1) e a s)) → P (hypercallOf v r s)
+unfolding hypercallOf
+hypercall-either P v r s same acts =
+    let caller = guestOf (s .monitor) v in
+    let f = askedBy (r .r0) in
+    let act = actOf v (r .r1) (callRowOf f .error) (actionOf f (r .r2)) s in
+    let refusal = firstRefusal (rowTests (callRowOf f) r caller) in
+    unless-either P (firstRefusal (callerTests (length (s .frames)) (length (s .map)) caller)) s (unlessRefused refusal s act) same
+    (unless-either P refusal s act same (acts (callRowOf f .error) (actionOf f (r .r2))))
