@@ -14,7 +14,7 @@ use Rattle.words.specs.Granule.{granuleSize, granuleOf, isBase}
 use Rattle.words.proofs.Booleans.{both-true}
 use Rattle.tables.specs.Length.{widthOf, lengthsHold}
 use Rattle.tables.specs.Row.{wordIndex}
-use Rattle.tables.specs.Pair.{pairAt}
+use Rattle.pairs.specs.Pair.{pairAt}
 use Rattle.records.specs.Monitor.{guestOf}
 use Rattle.records.specs.Answer.{verdictWith}
 use Rattle.records.specs.State.{State}

@@ -30,10 +30,11 @@ use Rattle.records.proofs.MonitorLaws.{live-slot}
 use Rattle.granules.specs.Step.{Place, place, Refusal, isDamaged, notDone, tableStep}
 use Rattle.ranges.specs.Range.{rangeLimit}
 use Rattle.functions.specs.Function.{functionOf, askedBy}
-use Rattle.functions.specs.Table.{registers, errorAnswer, callRowOf, actionOf}
+use Rattle.functions.specs.Table.{registers, errorAnswer, callRowOf}
+use Rattle.actions.specs.Action.{actionOf}
 use Rattle.functions.specs.declared.numbers.Function.{Function}
 use Rattle.functions.specs.declared.numbers.Function.the-variants.{Share, Unshare, RangeGuardMap, RangeGuardUnmap}
-use Rattle.functions.specs.declared.actions.Action.the-variants as action
+use Rattle.actions.specs.declared.actions.Action.the-variants as action
 use Rattle.functions.specs.declared.rows.Error.{Error}
 use Rattle.functions.specs.declared.rows.Error.the-variants.{NotSupported, InvalidParameter}
 use Rattle.guest_callers.specs.Callers.{callerTests}

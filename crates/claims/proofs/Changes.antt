@@ -19,11 +19,11 @@ use Rattle.words.specs.declared.map_word.MapWord.the-variants as map-word
 use Rattle.words.proofs.MapWordLaws.{map-encode-decode}
 use Rattle.tables.specs.Length.{widthOf}
 use Rattle.tables.specs.Row.{wordIndex, wordAt}
-use Rattle.tables.specs.Pair.{granuleState, pairAt, granuleUndamaged}
-use Rattle.tables.specs.declared.pairs.GranuleState.{GranuleState}
-use Rattle.tables.specs.declared.pairs.GranuleState.the-variants as granule-state
+use Rattle.pairs.specs.Pair.{granuleState, pairAt, granuleUndamaged}
+use Rattle.pairs.specs.declared.pairs.GranuleState.{GranuleState}
+use Rattle.pairs.specs.declared.pairs.GranuleState.the-variants as granule-state
 use Rattle.tables.proofs.RowLaws.{row-inside}
-use Rattle.tables.proofs.Found.{mapWordBy, granule-says}
+use Rattle.pairs.proofs.Found.{mapWordBy, granule-says}
 use Rattle.records.specs.Answer.{verdictWith}
 use Rattle.records.specs.State.{State}
 use Rattle.records.specs.declared.answer.Numbers.{Numbers}

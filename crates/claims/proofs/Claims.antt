@@ -14,7 +14,7 @@ use Rattle.words.specs.MapWord.{mapBits, mapWordOf}
 use Rattle.words.specs.FrameWord.{frameBits, frameWordOf}
 use Rattle.tables.specs.Length.{framesHold, mapHolds}
 use Rattle.tables.specs.Row.{boundsOf}
-use Rattle.tables.specs.Pair.{granuleState, pairAt, frameState, pairOf}
+use Rattle.pairs.specs.Pair.{granuleState, pairAt, frameState, pairOf}
 use Rattle.records.specs.Monitor.{guestOf, withGuest}
 use Rattle.records.specs.Answer.{numbersOf}
 use Rattle.records.specs.State.{State}
@@ -23,7 +23,8 @@ use Rattle.granules.specs.Kind.{changeOf}
 use Rattle.granules.specs.Step.{stepFrom}
 use Rattle.ranges.specs.Range.{rangeLimit}
 use Rattle.functions.specs.Function.{functionOf}
-use Rattle.functions.specs.Table.{registers, callRowOf, actionOf}
+use Rattle.functions.specs.Table.{registers, callRowOf}
+use Rattle.actions.specs.Action.{actionOf}
 use Rattle.functions.specs.declared.rows.Registers.{Registers}
 use Rattle.guest_hypercalls.specs.Calls.{actOf, hypercallOf}
 use Rattle.guest_aborts.specs.Calls.{guestAccessOf, abortOf}

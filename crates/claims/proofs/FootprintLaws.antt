@@ -18,8 +18,8 @@ use Rattle.ranges.specs.Range.{rangeLimit}
 use Rattle.granules.specs.declared.kinds.Operation.{Operation}
 use Rattle.functions.specs.declared.rows.Registers.{Registers}
 use Rattle.functions.specs.declared.rows.Error.{Error}
-use Rattle.functions.specs.declared.actions.Action.{Action}
-use Rattle.functions.specs.declared.actions.Action.the-variants as action
+use Rattle.actions.specs.declared.actions.Action.{Action}
+use Rattle.actions.specs.declared.actions.Action.the-variants as action
 use Rattle.guest_hypercalls.specs.Calls.{finished, actOf, hypercallOf}
 use Rattle.guest_hypercalls.proofs.HypercallLaws.{hypercall-either}
 use Rattle.claims.specs.Footprint.{Within}

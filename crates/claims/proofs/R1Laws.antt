@@ -20,7 +20,8 @@ use Rattle.records.specs.declared.answer.Answer.the-variants.{BadLength, NoGues
 use Rattle.records.specs.declared.answer.Numbers.{Numbers}
 use Rattle.ranges.specs.Range.{rangeLimit}
 use Rattle.functions.specs.Function.{functionOf, askedBy}
-use Rattle.functions.specs.Table.{registers, errorAnswer, callRow, callRowOf, actionOf}
+use Rattle.functions.specs.Table.{registers, errorAnswer, callRow, callRowOf}
+use Rattle.actions.specs.Action.{actionOf}
 use Rattle.functions.specs.declared.numbers.Function.{Function}
 use Rattle.functions.specs.declared.numbers.Function.the-variants.{Share, Unshare, RangeGuardMap, RangeGuardUnmap}
 use Rattle.functions.specs.declared.rows.Rule.the-variants.{Any, NotZero, Base}

@@ -21,8 +21,8 @@ use Rattle.granules.specs.Step.{Place, place, Refusal, tableStep}
 use Rattle.ranges.specs.Range.{rangeLimit}
 use Rattle.functions.specs.Table.{returned}
 use Rattle.functions.specs.declared.rows.Error.{Error}
-use Rattle.functions.specs.declared.actions.Action.{Action}
-use Rattle.functions.specs.declared.actions.Action.the-variants as action
+use Rattle.actions.specs.declared.actions.Action.{Action}
+use Rattle.actions.specs.declared.actions.Action.the-variants as action
 use Rattle.guest_callers.specs.Callers.{callerTests}
 use Rattle.guest_hypercalls.specs.Calls.{finished, actOf}
 use Rattle.guest_aborts.specs.Calls.{guestAccessOf, abortOf}

@@ -20,8 +20,8 @@ use Rattle.words.proofs.Booleans.{both-true}
 use Rattle.words.proofs.FrameWordLaws.{named-granule, frame-decode-encode}
 use Rattle.tables.specs.Length.{lengthsHold}
 use Rattle.tables.specs.Row.{rowOf}
-use Rattle.tables.specs.Pair.{frameNamesBack, granuleState, granuleUndamaged}
-use Rattle.tables.specs.declared.pairs.GranuleState.the-variants as granule-state
+use Rattle.pairs.specs.Pair.{frameNamesBack, granuleState, granuleUndamaged}
+use Rattle.pairs.specs.declared.pairs.GranuleState.the-variants as granule-state
 use Rattle.records.specs.Answer.{numbersOf}
 use Rattle.records.specs.Monitor.{guestOf}
 use Rattle.records.specs.State.{State, Answered}

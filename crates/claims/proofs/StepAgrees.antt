@@ -19,10 +19,10 @@ use Rattle.words.proofs.GranuleLaws.{granule-address}
 use Rattle.words.proofs.FrameWordLaws.{frame-encode-decode, frame-fits, sharing-bit}
 use Rattle.tables.specs.Length.{widthOf}
 use Rattle.tables.specs.Row.{wordIndex, wordAt}
-use Rattle.tables.specs.Pair.{granuleState, pairAt}
-use Rattle.tables.specs.declared.pairs.GranuleState.{GranuleState}
-use Rattle.tables.specs.declared.pairs.GranuleState.the-variants as granule-state
-use Rattle.tables.proofs.Found.{granule-says, granule-names}
+use Rattle.pairs.specs.Pair.{granuleState, pairAt}
+use Rattle.pairs.specs.declared.pairs.GranuleState.{GranuleState}
+use Rattle.pairs.specs.declared.pairs.GranuleState.the-variants as granule-state
+use Rattle.pairs.proofs.Found.{granule-says, granule-names}
 use Rattle.records.specs.Answer.{verdictWith}
 use Rattle.records.specs.State.{state}
 use Rattle.records.specs.Tests.{firstRefusal}

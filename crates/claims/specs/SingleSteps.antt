@@ -8,9 +8,9 @@ use Rattle.runs.specs.Run.{Step, took, End, gated, run}
 use Rattle.words.specs.Granule.{granuleSize, granuleOf, isBase}
 use Rattle.tables.specs.Length.{widthOf, lengthsHold}
 use Rattle.tables.specs.Row.{wordIndex}
-use Rattle.tables.specs.Pair.{pairAt, granuleUndamaged}
-use Rattle.tables.specs.declared.pairs.GranuleState.{GranuleState}
-use Rattle.tables.specs.declared.pairs.GranuleState.the-variants as granule-state
+use Rattle.pairs.specs.Pair.{pairAt, granuleUndamaged}
+use Rattle.pairs.specs.declared.pairs.GranuleState.{GranuleState}
+use Rattle.pairs.specs.declared.pairs.GranuleState.the-variants as granule-state
 use Rattle.records.specs.Monitor.{guestOf}
 use Rattle.records.specs.Answer.{verdictWith}
 use Rattle.records.specs.State.{State, state}

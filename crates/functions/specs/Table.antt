@@ -1,14 +1,12 @@
--- Document 01, "Guest calls": the table, row by row. "NS is −1, IP is −3."
-use mathlib.Core.Bool.{Bool, true, false, cond, _&&_}
+-- Document 01, "Guest calls": of the table, what each row asks of registers and record, and its error. "NS is −1, IP is −3."
+use mathlib.Core.Bool.{Bool, true, _&&_}
 use Prim.Native.Nat.{ℕ, _%_}
 use lib.Dec.{eqb, ltb}
 use lib.IntN.{ℤ, negsuc}
-use Rattle.words.specs.Granule.{granuleSize, isBase}
+use Rattle.words.specs.Granule.{isBase}
 use Rattle.records.specs.declared.answer.Answer.{Answer}
 use Rattle.records.specs.declared.answer.Answer.the-variants.{Return}
 use Rattle.records.specs.declared.guest.Guest.{Guest}
-use Rattle.granules.specs.declared.kinds.Operation.{Operation}
-use Rattle.granules.specs.Kind.{sharing, unsharing, guarding, unguarding, relinquishing}
 use Rattle.functions.specs.declared.numbers.Function.{Function}
 use Rattle.functions.specs.declared.numbers.Function.the-variants.{Features, Uid, MemoryInfo, Share, Unshare, GuardInfo, Enroll, GuardMap, GuardUnmap, Relinquish, RangeGuardMap, RangeGuardUnmap, Unknown}
 use Rattle.functions.specs.declared.rows.Registers.{Registers}
@@ -19,8 +17,6 @@ use Rattle.functions.specs.declared.rows.Condition.the-variants.{Nothing
 use Rattle.functions.specs.declared.rows.Error.{Error}
 use Rattle.functions.specs.declared.rows.Error.the-variants.{NotSupported, InvalidParameter}
 use Rattle.functions.specs.declared.rows.CallRow.{CallRow}
-use Rattle.functions.specs.declared.actions.Action.{Action}
-use Rattle.functions.specs.declared.actions.Action.the-variants as action
 
 -- R0 to R3
 abbrev pub registers : ℕ → ℕ → ℕ → ℕ → Registers
@@ -68,30 +64,3 @@ callRowOf Unknown = callRow Any Any Any Nothing NotSupported
 
 abbrev pub registersHold : CallRow → Registers → Bool
 registersHold w r = meets (w .r1) (r .r1) && (meets (w .r2) (r .r2) && meets (w .r3) (r .r3))
-
--- "Count 0 means 1 for share and unshare"
-abbrev pub atLeastOne : ℕ → ℕ
-atLeastOne n = cond (eqb n 0) 1 n
-
--- "Share, unshare and the range guard calls work upward", and tell in R1; the others work on one granule
-abbrev pub upward : Operation → ℕ → Action
-upward o n = action.Change o n true
-
-abbrev pub single : Operation → Action
-single o = action.Change o 1 false
-
--- the column "Answer" where nothing bars the call; R2 is the count of granules where the call has one
-unfoldable pub actionOf : Function → ℕ → Action
-actionOf Features n = action.Tell 0xFFD 0 0 0
-actionOf Uid n = action.Tell 0xB66FB428 0xE911C52E 0x564BCAA9 0x743A004D
-actionOf MemoryInfo n = action.Tell granuleSize 1 0 0
-actionOf Share n = upward sharing (atLeastOne n)
-actionOf Unshare n = upward unsharing (atLeastOne n)
-actionOf GuardInfo n = action.Tell granuleSize 1 0 0
-actionOf Enroll n = action.Enroll
-actionOf GuardMap n = single guarding
-actionOf GuardUnmap n = single unguarding
-actionOf Relinquish n = single relinquishing
-actionOf RangeGuardMap n = upward guarding n
-actionOf RangeGuardUnmap n = upward unguarding n
-actionOf Unknown n = action.Refuse

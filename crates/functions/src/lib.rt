@@ -1,10 +1,8 @@
-// The table of guest calls: which call a function number asks for, what it asks of the registers and of the caller's record, and what it does.
-// It rests on words, records and granules. It looks at no table of words, and changes nothing.
-mod actions;
+// The table of guest calls: which call a function number asks for, and what it asks of the registers and of the caller's record.
+// It rests on words and records. It looks at no table of words, changes nothing, and does not say what a call does.
 mod numbers;
 mod rows;
 
-pub use actions::Action;
 pub use numbers::Function;
 pub use rows::CallRow;
 pub use rows::Condition;

@@ -11,10 +11,10 @@ use Rattle.words.specs.declared.map_word.MapWord.the-variants as map-word
 use Rattle.words.specs.declared.frame_word.FrameWord.the-variants as frame-word
 use Rattle.words.proofs.MapWordLaws.{map-fits}
 use Rattle.words.proofs.FrameWordLaws.{frame-fits}
-use Rattle.tables.specs.Pair.{granuleState}
-use Rattle.tables.specs.declared.pairs.GranuleState.{GranuleState}
-use Rattle.tables.specs.declared.pairs.GranuleState.the-variants as granule-state
-use Rattle.tables.proofs.Found.{granule-says, granule-names}
+use Rattle.pairs.specs.Pair.{granuleState}
+use Rattle.pairs.specs.declared.pairs.GranuleState.{GranuleState}
+use Rattle.pairs.specs.declared.pairs.GranuleState.the-variants as granule-state
+use Rattle.pairs.proofs.Found.{granule-says, granule-names}
 use Rattle.granules.specs.Kind.{isOf, bare, changeOf}
 use Rattle.granules.specs.declared.kinds.Kind.{Kind}
 use Rattle.granules.specs.declared.kinds.Kind.the-variants.{Vacant, Private, Shared, Guarded}

@@ -15,7 +15,7 @@ use Rattle.runs.proofs.Alike.{mapStop, mapStep, mapEnd, alike}
 use Rattle.words.specs.MapWord.{mapBits, mapWordOf}
 use Rattle.tables.specs.Length.{widthOf}
 use Rattle.tables.specs.Row.{bounds, boundsOf}
-use Rattle.tables.specs.Pair.{granuleState}
+use Rattle.pairs.specs.Pair.{granuleState}
 use Rattle.tables.specs.declared.rows.RowBounds.{RowBounds}
 use Rattle.tables.proofs.RowLaws.{row-inside, bounds-slot}
 use Rattle.granules.specs.Kind.{wordWith, changeOf}

@@ -9,8 +9,8 @@ use borrow.Author.Tests.{lt-ltb, le-ltb}
 use lib.ListN.{length, getD}
 use Rattle.runs.specs.Run.{complete, ended, onward, run}
 use Rattle.words.specs.MapWord.{mapWordOf}
-use Rattle.tables.specs.Pair.{granuleState}
-use Rattle.tables.specs.declared.pairs.GranuleState.{GranuleState}
+use Rattle.pairs.specs.Pair.{granuleState}
+use Rattle.pairs.specs.declared.pairs.GranuleState.{GranuleState}
 use Rattle.granules.specs.Kind.{changeOf}
 use Rattle.granules.specs.Step.{place, written, stepFrom, rowStep, oneEnd}
 use Rattle.granules.specs.declared.kinds.Operation.{Operation}

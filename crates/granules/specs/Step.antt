@@ -8,7 +8,7 @@ use Rattle.runs.specs.Run.{Step, took, refuses, Stop, complete, refused, End, e
 use Rattle.words.specs.MapWord.{mapBits, mapWordOf}
 use Rattle.words.specs.FrameWord.{frameBits}
 use Rattle.tables.specs.Length.{widthOf}
-use Rattle.tables.specs.Pair.{granuleState}
+use Rattle.pairs.specs.Pair.{granuleState}
 use Rattle.granules.specs.Kind.{wordWith, frameThen, changeOf}
 use Rattle.granules.specs.declared.kinds.Kind.{Kind}
 use Rattle.granules.specs.declared.kinds.Operation.{Operation}

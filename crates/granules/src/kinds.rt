@@ -3,7 +3,7 @@ ghost use Prim.Native.Nat.{_<_, _^_};
 ghost use Rattle.words.specs.MapWord.{mapBits};
 ghost use Rattle.words.specs.FrameWord.{frameBits};
 ghost use Rattle.granules.specs.Kind.{isOf, wordWith, frameThen, bare, changeOf};
-use tables::GranuleState;
+use pairs::GranuleState;
 use words::FrameWord;
 use words::MapWord;
 

@@ -4,7 +4,7 @@ ghost use Rattle.runs.specs.Run.{run};
 ghost use Rattle.granules.specs.Step.{place, rowStep, oneEnd};
 use crate::kinds::Change;
 use crate::kinds::Operation;
-use tables::granule_state;
+use pairs::granule_state;
 use words::Granule;
 
 // How a single step, or a range of them, ended.

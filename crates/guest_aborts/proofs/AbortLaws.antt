@@ -8,10 +8,10 @@ use Rattle.words.specs.Granule.{granuleOf}
 use Rattle.words.specs.MapWord.{mapWordOf}
 use Rattle.tables.specs.Length.{widthOf}
 use Rattle.tables.specs.Row.{rowOf}
-use Rattle.tables.specs.Pair.{granuleState}
-use Rattle.tables.specs.declared.pairs.GranuleState.{GranuleState}
+use Rattle.pairs.specs.Pair.{granuleState}
+use Rattle.pairs.specs.declared.pairs.GranuleState.{GranuleState}
 use Rattle.tables.proofs.RowLaws.{in-row, off-row}
-use Rattle.tables.proofs.PairLaws.{granule-in-row}
+use Rattle.pairs.proofs.PairLaws.{granule-in-row}
 use Rattle.records.specs.Monitor.{guestOf}
 use Rattle.records.specs.State.{State, answered}
 use Rattle.records.specs.Tests.{firstRefusal, refusalBy}

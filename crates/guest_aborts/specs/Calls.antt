@@ -6,9 +6,9 @@ use lib.Dec.{ltb}
 use lib.ListN.{length}
 use Rattle.words.specs.Granule.{granuleOf}
 use Rattle.tables.specs.Length.{widthOf}
-use Rattle.tables.specs.Pair.{pairAt}
-use Rattle.tables.specs.declared.pairs.GranuleState.{GranuleState}
-use Rattle.tables.specs.declared.pairs.GranuleState.the-variants as granule-state
+use Rattle.pairs.specs.Pair.{pairAt}
+use Rattle.pairs.specs.declared.pairs.GranuleState.{GranuleState}
+use Rattle.pairs.specs.declared.pairs.GranuleState.the-variants as granule-state
 use Rattle.records.specs.Monitor.{guestOf}
 use Rattle.records.specs.State.{State, Answered, answered}
 use Rattle.records.specs.Tests.{firstRefusal, unlessRefused}

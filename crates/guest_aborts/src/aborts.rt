@@ -3,13 +3,13 @@ ghost use Rattle.records.specs.State.{state, answered};
 ghost use Rattle.guest_aborts.specs.Calls.{unbacked, guestAccessOf, abortOf};
 ghost use Prim.Native.Nat.{_<_};
 use guest_callers::caller_admission;
+use pairs::GranuleState;
+use pairs::granule_state;
 use records::Admission;
 use records::Answer;
 use records::Guest;
 use records::Monitor;
 use records::Reply;
-use tables::GranuleState;
-use tables::granule_state;
 use tables::row;
 use words::Granule;
 

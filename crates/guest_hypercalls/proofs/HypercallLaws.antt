@@ -19,12 +19,13 @@ use Rattle.granules.specs.Step.{Refusal}
 use Rattle.guest_callers.specs.Callers.{callerTests}
 use Rattle.guest_callers.proofs.CallerLaws.{caller-tested}
 use Rattle.functions.specs.Function.{askedBy}
-use Rattle.functions.specs.Table.{returned, callRowOf, actionOf}
+use Rattle.functions.specs.Table.{returned, callRowOf}
+use Rattle.actions.specs.Action.{actionOf}
 use Rattle.functions.specs.declared.numbers.Function.{Function}
 use Rattle.functions.specs.declared.rows.Registers.{Registers}
 use Rattle.functions.specs.declared.rows.Error.{Error}
 use Rattle.functions.specs.declared.rows.CallRow.{CallRow}
-use Rattle.functions.specs.declared.actions.Action.{Action}
+use Rattle.actions.specs.declared.actions.Action.{Action}
 use Rattle.guest_hypercalls.specs.Calls.{rowTests, doneAnswer, actOf, hypercallOf}
 
 -- a refused call leaves the record that it was called with

@@ -17,12 +17,13 @@ use Rattle.granules.specs.Step.{Place, place, Refusal, isDamaged, notDone, tabl
 use Rattle.ranges.specs.Range.{rangeLimit}
 use Rattle.guest_callers.specs.Callers.{callerTests}
 use Rattle.functions.specs.Function.{askedBy}
-use Rattle.functions.specs.Table.{permits, returned, errorAnswer, callRowOf, registersHold, actionOf}
+use Rattle.functions.specs.Table.{permits, returned, errorAnswer, callRowOf, registersHold}
+use Rattle.actions.specs.Action.{actionOf}
 use Rattle.functions.specs.declared.rows.Registers.{Registers}
 use Rattle.functions.specs.declared.rows.Error.{Error}
 use Rattle.functions.specs.declared.rows.CallRow.{CallRow}
-use Rattle.functions.specs.declared.actions.Action.{Action}
-use Rattle.functions.specs.declared.actions.Action.the-variants as action
+use Rattle.actions.specs.declared.actions.Action.{Action}
+use Rattle.actions.specs.declared.actions.Action.the-variants as action
 
 -- "Registers, then enrolment, are tested before any granule."
 abbrev pub rowTests : CallRow → Registers → Guest → Tests Answer

@@ -8,7 +8,7 @@ ghost use Rattle.guest_hypercalls.specs.Calls.{actOf, hypercallOf};
 use crate::admissions::row_admission;
 use crate::work::answer_of;
 use crate::work::change_row;
-use functions::Action;
+use actions::Action;
 use functions::Error;
 use functions::Function;
 use functions::Registers;
@@ -85,7 +85,7 @@ pub fn serve(
                     slot,
                     registers.r1,
                     error,
-                    function.action(registers.r2),
+                    Action::of(function, registers.r2),
                 ),
             }
         }

@@ -13,14 +13,15 @@ use Rattle.words.specs.declared.map_word.MapWord.the-variants as map-word
 use Rattle.words.specs.declared.frame_word.FrameWord.the-variants as frame-word
 use Rattle.words.proofs.GranuleLaws.{granule-address}
 use Rattle.tables.specs.Row.{wordAt}
-use Rattle.tables.specs.Pair.{granuleState}
+use Rattle.pairs.specs.Pair.{granuleState}
 use Rattle.records.specs.Monitor.{newGuest, enroll, guestOf, withGuest}
 use Rattle.records.specs.State.{State, state}
 use Rattle.records.proofs.MonitorLaws.{live-slot}
 use Rattle.granules.specs.Kind.{changeOf, sharing, guarding}
 use Rattle.granules.specs.Step.{place, stepFrom, tableStep}
 use Rattle.functions.specs.Function.{functionOf}
-use Rattle.functions.specs.Table.{registers, callRowOf, actionOf}
+use Rattle.functions.specs.Table.{registers, callRowOf}
+use Rattle.actions.specs.Action.{actionOf}
 use Rattle.functions.specs.declared.rows.Registers.{Registers}
 use Rattle.guest_hypercalls.specs.Calls.{actOf, hypercallOf}
 use Rattle.host_registers.specs.Registers.{registerNumbered, bitmapWritten, registerWriteOf}

@@ -9,9 +9,9 @@ use Rattle.runs.specs.Run.{run}
 use Rattle.words.specs.Granule.{granuleOf}
 use Rattle.words.proofs.Booleans.{never}
 use Rattle.tables.specs.Length.{widthOf}
-use Rattle.tables.specs.Pair.{pairAt, granuleUndamaged}
-use Rattle.tables.specs.declared.pairs.GranuleState.{GranuleState}
-use Rattle.tables.specs.declared.pairs.GranuleState.the-variants as granule-state
+use Rattle.pairs.specs.Pair.{pairAt, granuleUndamaged}
+use Rattle.pairs.specs.declared.pairs.GranuleState.{GranuleState}
+use Rattle.pairs.specs.declared.pairs.GranuleState.the-variants as granule-state
 use Rattle.records.specs.Answer.{numbersOf}
 use Rattle.records.specs.Monitor.{guestOf, enroll}
 use Rattle.records.specs.State.{State, answered}
@@ -24,7 +24,8 @@ use Rattle.ranges.specs.Range.{rangeLimit}
 use Rattle.granules.specs.declared.kinds.Kind.the-variants.{Vacant, Guarded}
 use Rattle.granules.specs.declared.kinds.Change.the-variants.{Damaged}
 use Rattle.functions.specs.Function.{askedBy}
-use Rattle.functions.specs.Table.{permits, callRowOf, atLeastOne, actionOf}
+use Rattle.functions.specs.Table.{permits, callRowOf}
+use Rattle.actions.specs.Action.{atLeastOne, actionOf}
 use Rattle.functions.specs.declared.numbers.Function.{Function}
 use Rattle.functions.specs.declared.numbers.Function.the-variants.{Features, Uid, MemoryInfo, Share, Unshare, GuardInfo, Enroll, GuardMap, GuardUnmap, Relinquish, RangeGuardMap, RangeGuardUnmap, Unknown}
 use Rattle.functions.specs.declared.rows.Registers.{Registers}

@@ -15,16 +15,17 @@ use Rattle.words.specs.declared.frame_word.FrameWord.{FrameWord}
 use Rattle.words.proofs.Booleans.{both-true}
 use Rattle.tables.specs.Length.{widthOf, framesHold, mapHolds, lengthsHold}
 use Rattle.tables.specs.Row.{wordAt, boundsOf}
-use Rattle.tables.specs.Pair.{pairOf, granuleState, pairAt, frameState}
-use Rattle.tables.specs.declared.pairs.FrameState.{FrameState}
-use Rattle.tables.specs.declared.pairs.FrameState.the-variants as frame-state
+use Rattle.pairs.specs.Pair.{pairOf, granuleState, pairAt, frameState}
+use Rattle.pairs.specs.declared.pairs.FrameState.{FrameState}
+use Rattle.pairs.specs.declared.pairs.FrameState.the-variants as frame-state
 use Rattle.records.specs.Answer.{numbersOf, verdictWith}
 use Rattle.records.specs.State.{State}
 use Rattle.records.specs.Monitor.{guestOf, withGuest}
 use Rattle.granules.specs.Kind.{changeOf}
 use Rattle.granules.specs.Step.{stepFrom}
 use Rattle.functions.specs.Function.{functionOf}
-use Rattle.functions.specs.Table.{callRowOf, actionOf}
+use Rattle.functions.specs.Table.{callRowOf}
+use Rattle.actions.specs.Action.{actionOf}
 use Rattle.guest_hypercalls.specs.Calls.{actOf, hypercallOf}
 use Rattle.rows.specs.WholeRow.{rowVacant, undamagedFrom, framesFreed, framesNamed}
 use Rattle.host_donation.specs.Calls.{donateOf}

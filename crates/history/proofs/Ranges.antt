@@ -15,9 +15,9 @@ use Rattle.words.specs.declared.frame_word.FrameWord.the-variants as frame-word
 use Rattle.words.proofs.Booleans.{never}
 use Rattle.tables.specs.Length.{widthOf}
 use Rattle.tables.specs.Row.{wordIndex, wordAt}
-use Rattle.tables.specs.Pair.{granuleState}
-use Rattle.tables.specs.declared.pairs.GranuleState.{GranuleState}
-use Rattle.tables.proofs.Found.{mapWordBy, granule-says}
+use Rattle.pairs.specs.Pair.{granuleState}
+use Rattle.pairs.specs.declared.pairs.GranuleState.{GranuleState}
+use Rattle.pairs.proofs.Found.{mapWordBy, granule-says}
 use Rattle.records.specs.Monitor.{guestOf}
 use Rattle.records.specs.State.{State, state}
 use Rattle.records.specs.declared.guest.Guest.{Guest}

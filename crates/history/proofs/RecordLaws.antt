@@ -4,8 +4,8 @@ use mathlib.Core.Bool.{true, false}
 use Prim.Native.Nat.{ℕ}
 use Rattle.words.proofs.Booleans.{never}
 use Rattle.runs.specs.Run.{run}
-use Rattle.tables.specs.declared.pairs.GranuleState.{GranuleState}
-use Rattle.tables.specs.declared.pairs.GranuleState.the-variants as granule-state
+use Rattle.pairs.specs.declared.pairs.GranuleState.{GranuleState}
+use Rattle.pairs.specs.declared.pairs.GranuleState.the-variants as granule-state
 use Rattle.records.specs.Monitor.{zeroGuest, newGuest, markRun, enroll}
 use Rattle.records.specs.declared.guest.Guest.{Guest}
 use Rattle.granules.specs.declared.kinds.Kind.the-variants.{Vacant, Guarded}

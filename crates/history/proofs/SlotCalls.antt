@@ -16,7 +16,7 @@ use Rattle.words.proofs.Booleans.{both-true}
 use Rattle.words.proofs.MapWordLaws.{map-encode-decode}
 use Rattle.tables.specs.Length.{framesHold, mapHolds}
 use Rattle.tables.specs.Row.{rowOf}
-use Rattle.tables.specs.Pair.{granuleState, granuleUndamaged}
+use Rattle.pairs.specs.Pair.{granuleState, granuleUndamaged}
 use Rattle.tables.proofs.RowLaws.{row-length, row-length-none}
 use Rattle.records.specs.Answer.{numbersOf}
 use Rattle.records.specs.Monitor.{zeroGuest, newGuest, markRun, guestOf}

@@ -14,11 +14,11 @@ use Rattle.words.specs.declared.frame_word.FrameWord.the-variants as frame-word
 use Rattle.words.proofs.Booleans.{both-true, beq-self, never}
 use Rattle.words.proofs.FrameWordLaws.{frame-fits}
 use Rattle.tables.specs.Length.{widthOf, framesHold, mapHolds}
-use Rattle.tables.specs.Pair.{frameNamesBack, granuleState, pairAt, granuleNamesBack, frameState, pairOf, frameUndamaged}
-use Rattle.tables.specs.declared.pairs.GranuleState.the-variants as granule-state
-use Rattle.tables.specs.declared.pairs.FrameState.{FrameState}
-use Rattle.tables.specs.declared.pairs.FrameState.the-variants as frame-state
-use Rattle.tables.proofs.Found.{granule-names, frame-names}
+use Rattle.pairs.specs.Pair.{frameNamesBack, granuleState, pairAt, granuleNamesBack, frameState, pairOf, frameUndamaged}
+use Rattle.pairs.specs.declared.pairs.GranuleState.the-variants as granule-state
+use Rattle.pairs.specs.declared.pairs.FrameState.{FrameState}
+use Rattle.pairs.specs.declared.pairs.FrameState.the-variants as frame-state
+use Rattle.pairs.proofs.Found.{granule-names, frame-names}
 use Rattle.records.specs.Monitor.{guestOf}
 use Rattle.records.specs.State.{State}
 use Rattle.records.specs.declared.guest.Guest.{Guest}

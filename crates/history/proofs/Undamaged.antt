@@ -13,9 +13,9 @@ use Rattle.words.specs.MapWord.{mapWordOf}
 use Rattle.words.proofs.Booleans.{never}
 use Rattle.tables.specs.Length.{widthOf}
 use Rattle.tables.specs.Row.{wordIndex, wordAt}
-use Rattle.tables.specs.Pair.{granuleState, pairAt, granuleUndamaged}
-use Rattle.tables.specs.declared.pairs.GranuleState.{GranuleState}
-use Rattle.tables.specs.declared.pairs.GranuleState.the-variants as granule-state
+use Rattle.pairs.specs.Pair.{granuleState, pairAt, granuleUndamaged}
+use Rattle.pairs.specs.declared.pairs.GranuleState.{GranuleState}
+use Rattle.pairs.specs.declared.pairs.GranuleState.the-variants as granule-state
 use Rattle.records.specs.State.{State}
 use Rattle.granules.specs.Kind.{isOf, bare, changeOf}
 use Rattle.granules.specs.Step.{Place, place, Refusal, isDamaged, notDone, written, stepFrom, tableStep}

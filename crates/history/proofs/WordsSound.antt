@@ -8,8 +8,8 @@ use Rattle.words.specs.declared.map_word.MapWord.{MapWord}
 use Rattle.words.specs.declared.map_word.MapWord.the-variants as map-word
 use Rattle.words.specs.declared.frame_word.FrameWord.the-variants as frame-word
 use Rattle.words.proofs.Booleans.{never}
-use Rattle.tables.specs.declared.pairs.GranuleState.{GranuleState}
-use Rattle.tables.specs.declared.pairs.GranuleState.the-variants as granule-state
+use Rattle.pairs.specs.declared.pairs.GranuleState.{GranuleState}
+use Rattle.pairs.specs.declared.pairs.GranuleState.the-variants as granule-state
 use Rattle.records.specs.Monitor.{guestOf}
 use Rattle.records.specs.State.{State}
 use Rattle.history.specs.Sound.{SoundRecord, mayHold}

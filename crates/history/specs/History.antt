@@ -1,8 +1,8 @@
 -- "Histories start from fresh tables, and only these calls write them."
 use mathlib.Core.Bool.{Bool, true, false, not}
 use mathlib.Core.List.{List, [], _∷_}
-use Rattle.tables.specs.declared.pairs.FrameState.{FrameState}
-use Rattle.tables.specs.declared.pairs.FrameState.the-variants as frame-state
+use Rattle.pairs.specs.declared.pairs.FrameState.{FrameState}
+use Rattle.pairs.specs.declared.pairs.FrameState.the-variants as frame-state
 use Rattle.records.specs.Answer.{numbersOf}
 use Rattle.records.specs.State.{State}
 use Rattle.calls.specs.Step.{step}

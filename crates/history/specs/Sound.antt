@@ -5,9 +5,9 @@ use mathlib.Core.Bool.{Bool, true, false}
 use Prim.Native.Nat.{ℕ, _<_}
 use lib.ListN.{length}
 use Rattle.tables.specs.Length.{widthOf, lengthsHold}
-use Rattle.tables.specs.Pair.{pairAt, pairOf, frameUndamaged}
-use Rattle.tables.specs.declared.pairs.GranuleState.{GranuleState}
-use Rattle.tables.specs.declared.pairs.GranuleState.the-variants.{Vacant, Frame, Guarded, Damaged}
+use Rattle.pairs.specs.Pair.{pairAt, pairOf, frameUndamaged}
+use Rattle.pairs.specs.declared.pairs.GranuleState.{GranuleState}
+use Rattle.pairs.specs.declared.pairs.GranuleState.the-variants.{Vacant, Frame, Guarded, Damaged}
 use Rattle.records.specs.Monitor.{zeroGuest, guestOf}
 use Rattle.records.specs.State.{State}
 use Rattle.records.specs.declared.guest.Guest.{Guest}

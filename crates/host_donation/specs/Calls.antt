@@ -10,11 +10,11 @@ use Rattle.words.specs.declared.map_word.MapWord.the-variants as map-word
 use Rattle.words.specs.declared.frame_word.FrameWord.the-variants as frame-word
 use Rattle.tables.specs.Length.{widthOf, lengthsHold}
 use Rattle.tables.specs.Row.{wordIndex}
-use Rattle.tables.specs.Pair.{pairAt, pairOf, granuleUndamaged, frameUndamaged}
-use Rattle.tables.specs.declared.pairs.GranuleState.{GranuleState}
-use Rattle.tables.specs.declared.pairs.GranuleState.the-variants as granule-state
-use Rattle.tables.specs.declared.pairs.FrameState.{FrameState}
-use Rattle.tables.specs.declared.pairs.FrameState.the-variants as frame-state
+use Rattle.pairs.specs.Pair.{pairAt, pairOf, granuleUndamaged, frameUndamaged}
+use Rattle.pairs.specs.declared.pairs.GranuleState.{GranuleState}
+use Rattle.pairs.specs.declared.pairs.GranuleState.the-variants as granule-state
+use Rattle.pairs.specs.declared.pairs.FrameState.{FrameState}
+use Rattle.pairs.specs.declared.pairs.FrameState.the-variants as frame-state
 use Rattle.records.specs.Monitor.{guestOf}
 use Rattle.records.specs.State.{State, state, Answered, answered}
 use Rattle.records.specs.Tests.{Tests, firstRefusal, unlessRefused}

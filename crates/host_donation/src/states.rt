@@ -1,8 +1,8 @@
 ghost use mathlib.Core.Path.{_≡_};
-ghost use Rattle.tables.specs.Pair.{granuleUndamaged, frameUndamaged};
+ghost use Rattle.pairs.specs.Pair.{granuleUndamaged, frameUndamaged};
 ghost use Rattle.host_donation.specs.Calls.{granuleVacant, frameHosts};
-use tables::FrameState;
-use tables::GranuleState;
+use pairs::FrameState;
+use pairs::GranuleState;
 
 pub(crate) fn granule_undamaged(state: GranuleState) -> bool
     ensures { λ r. ⌜ r ≡ granuleUndamaged state ⌝ }

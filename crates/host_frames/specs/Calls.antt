@@ -7,9 +7,9 @@ use lib.ListN.{length, set}
 use Rattle.words.specs.FrameWord.{frameBits}
 use Rattle.words.specs.declared.frame_word.FrameWord.the-variants as frame-word
 use Rattle.tables.specs.Length.{lengthsHold}
-use Rattle.tables.specs.Pair.{pairOf, frameUndamaged}
-use Rattle.tables.specs.declared.pairs.FrameState.{FrameState}
-use Rattle.tables.specs.declared.pairs.FrameState.the-variants as frame-state
+use Rattle.pairs.specs.Pair.{pairOf, frameUndamaged}
+use Rattle.pairs.specs.declared.pairs.FrameState.{FrameState}
+use Rattle.pairs.specs.declared.pairs.FrameState.the-variants as frame-state
 use Rattle.records.specs.State.{State, state, Answered, answered}
 use Rattle.records.specs.Tests.{Tests, firstRefusal, unlessRefused}
 use Rattle.records.specs.declared.answer.Answer.{Answer}

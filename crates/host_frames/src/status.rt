@@ -3,11 +3,11 @@ ghost use Rattle.records.specs.State.{state, answered};
 ghost use Rattle.records.specs.Tests.{firstRefusal, refusalBy};
 ghost use Rattle.records.specs.declared.monitor.Monitor.{Monitor};
 ghost use Rattle.host_frames.specs.Calls.{rangeTests, clearedOf, hostAccessOf};
+use pairs::FrameState;
+use pairs::pair_of;
 use records::Admission;
 use records::Answer;
-use tables::FrameState;
 use tables::lengths_hold;
-use tables::pair_of;
 use words::FrameWord;
 
 // The host confirms that a waiting frame was cleared, and the frame is the host's. It answers for any tables and frame number.

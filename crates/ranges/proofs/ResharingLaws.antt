@@ -13,9 +13,9 @@ use Rattle.words.specs.declared.map_word.MapWord.the-variants as map-word
 use Rattle.words.specs.declared.frame_word.FrameWord.the-variants as frame-word
 use Rattle.words.proofs.MapWordLaws.{map-decode-encode}
 use Rattle.words.proofs.FrameWordLaws.{names-granule-built}
-use Rattle.tables.specs.Pair.{granuleState}
-use Rattle.tables.specs.declared.pairs.GranuleState.the-variants as granule-state
-use Rattle.tables.proofs.PairLaws.{frame-tested}
+use Rattle.pairs.specs.Pair.{granuleState}
+use Rattle.pairs.specs.declared.pairs.GranuleState.the-variants as granule-state
+use Rattle.pairs.proofs.PairLaws.{frame-tested}
 use Rattle.granules.specs.Kind.{wordWith, frameThen, changeOf}
 use Rattle.ranges.specs.Range.{Going}
 use Rattle.ranges.specs.Resharing.{framed, resharing, heldBy, Room}

@@ -11,9 +11,9 @@ use lib.Seq.{drop-cons, take-all, take-suc-set, drop-set-lt}
 use Rattle.words.specs.MapWord.{mapBits, mapWordOf}
 use Rattle.words.specs.declared.map_word.MapWord.{MapWord}
 use Rattle.words.specs.declared.map_word.MapWord.the-variants as map-word
-use Rattle.tables.specs.Pair.{granuleState, granuleUndamaged}
-use Rattle.tables.specs.declared.pairs.GranuleState.{GranuleState}
-use Rattle.tables.specs.declared.pairs.GranuleState.the-variants as granule-state
+use Rattle.pairs.specs.Pair.{granuleState, granuleUndamaged}
+use Rattle.pairs.specs.declared.pairs.GranuleState.{GranuleState}
+use Rattle.pairs.specs.declared.pairs.GranuleState.the-variants as granule-state
 use Rattle.rows.specs.WholeRow.{rowVacant, undamagedFrom, rowUndamaged, vacantRow, frameFreed, framesFreed, frameNamed, framesNamed}
 
 word-and-rest : (row : List ℕ) (i : ℕ) → i < length row → drop i row ≡ getD row i 0 ∷ drop (i + 1) row

@@ -9,7 +9,7 @@ use Rattle.words.specs.FrameWord.{frameBits}
 use Rattle.words.specs.declared.map_word.MapWord.{MapWord}
 use Rattle.words.specs.declared.map_word.MapWord.the-variants as map-word
 use Rattle.words.specs.declared.frame_word.FrameWord.the-variants as frame-word
-use Rattle.tables.specs.Pair.{granuleState, granuleUndamaged}
+use Rattle.pairs.specs.Pair.{granuleState, granuleUndamaged}
 
 -- "its row must be all vacant"
 unfoldable pub rowVacant : List ℕ → Bool

@@ -1,7 +1,7 @@
 ghost use mathlib.Core.Path.{_≡_};
 ghost use Rattle.rows.specs.WholeRow.{rowVacant, rowUndamaged};
-use tables::GranuleState;
-use tables::granule_state;
+use pairs::GranuleState;
+use pairs::granule_state;
 use words::Granule;
 use words::MapWord;
 

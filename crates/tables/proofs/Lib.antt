@@ -1,6 +1,3 @@
 pub mod LengthLaws
 pub mod RowLaws
-pub mod PairLaws
-pub mod Found
-pub mod Locality
 pub mod Cases

@@ -10,13 +10,14 @@ use Rattle.words.specs.MapWord.{mapBits, mapWordOf}
 use Rattle.words.specs.FrameWord.{frameBits, frameWordOf}
 use Rattle.tables.specs.Length.{framesHold, mapHolds}
 use Rattle.tables.specs.Row.{boundsOf}
-use Rattle.tables.specs.Pair.{granuleState, pairAt, frameState, pairOf}
+use Rattle.pairs.specs.Pair.{granuleState, pairAt, frameState, pairOf}
 use Rattle.records.specs.Monitor.{guestOf, withGuest}
 use Rattle.records.specs.Answer.{numbersOf}
 use Rattle.granules.specs.Kind.{changeOf}
 use Rattle.granules.specs.Step.{stepFrom}
 use Rattle.functions.specs.Function.{functionOf}
-use Rattle.functions.specs.Table.{callRowOf, actionOf}
+use Rattle.functions.specs.Table.{callRowOf}
+use Rattle.actions.specs.Action.{actionOf}
 use Rattle.guest_hypercalls.specs.Calls.{actOf, hypercallOf}
 use Rattle.rows.specs.WholeRow.{rowVacant}
 use Rattle.host_donation.specs.Calls.{donateOf}

@@ -31,8 +31,8 @@ enum-known-answer-2 c = search needs
 enum-told-2 : tie.Need-enum-told-2
 enum-told-2 c = search needs
 
-action-requires : tie.Need-action-requires
-action-requires c κs = search needs
+of-requires : tie.Need-of-requires
+of-requires c κs = search needs
 
 act-requires : tie.Need-act-requires
 act-requires c κs = search needs
@@ -76,7 +76,7 @@ returns-3 c =
       λ monitor own.
           let before = state (entry .frames .now) (entry .map .now) monitor in
           let one-of-eight = caller-passed (entry .slot) before (entry .guest) own _ (tested .caller-admission .ensures) (passed .enum-told .given .1) in
-          row-passed (entry .slot) before (entry .guest) own _ (tested .caller-admission .ensures) (passed .enum-told .given .1) _ _ (checked .before .before .asked .ensures) _ (checked .before .row .ensures) _ (checked .row-admission .ensures) (let-through .enum-told2 .given .1) _ (done .before .action .ensures) _ (done .act .ensures .0 monitor one-of-eight own),
+          row-passed (entry .slot) before (entry .guest) own _ (tested .caller-admission .ensures) (passed .enum-told .given .1) _ _ (checked .before .before .asked .ensures) _ (checked .before .row .ensures) _ (checked .row-admission .ensures) (let-through .enum-told2 .given .1) _ (done .before .of .ensures) _ (done .act .ensures .0 monitor one-of-eight own),
       done .act .ensures .1,
     )
 
@@ -92,7 +92,7 @@ serve-spec =
     row-admission-requires
     enum-known-answer-2
     enum-told-2
-    action-requires
+    of-requires
     act-requires
     returns
     returns-2

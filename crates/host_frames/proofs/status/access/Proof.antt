@@ -1,6 +1,6 @@
 -- By the admission of the numbers, then by what the frame is.
 use mathlib.Core.Path.{_≡_}
-use Rattle.tables.specs.declared.pairs.FrameState.{FrameState}
+use Rattle.pairs.specs.declared.pairs.FrameState.{FrameState}
 use Rattle.records.specs.State.{state, answered}
 use Rattle.records.specs.declared.monitor.Monitor.{Monitor}
 use Rattle.host_frames.proofs.FrameLaws.{access-refused, accessBy, access-found}

@@ -1,7 +1,7 @@
 -- By the admission of the numbers, then by what the frame is.
 use mathlib.Core.Path.{_≡_}
 use native.Mathlib.Omega.{arith}
-use Rattle.tables.specs.declared.pairs.FrameState.{FrameState}
+use Rattle.pairs.specs.declared.pairs.FrameState.{FrameState}
 use Rattle.records.specs.State.{state}
 use Rattle.records.specs.Monitor.{fresh}
 use Rattle.records.specs.declared.monitor.Monitor.{Monitor}

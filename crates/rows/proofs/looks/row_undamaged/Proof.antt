@@ -1,8 +1,8 @@
 -- The row is undamaged exactly if the granules from here on are; each is looked at with its frame.
 use Rattle.rows.proofs.RowPasses.{undamaged-all, undamaged-not, undamaged-more}
 use Rattle.rows.specs.WholeRow.{undamagedFrom, rowUndamaged}
-use Rattle.tables.specs.declared.pairs.GranuleState.{GranuleState}
-use Rattle.tables.specs.declared.pairs.GranuleState.the-variants as granule-state
+use Rattle.pairs.specs.declared.pairs.GranuleState.{GranuleState}
+use Rattle.pairs.specs.declared.pairs.GranuleState.the-variants as granule-state
 use denote.Enum.Declared.{tagOf}
 use types.Run.{OneOf}
 use mathlib.Core.List.{[], _∷_}
@@ -16,7 +16,7 @@ use Rattle.rows.proofs.looks.row_undamaged.Statement.{statement}
 use Rattle.rows.proofs.looks.row_undamaged.Tie as tie
 
 -- a state with the tag of another variant
-not-damaged : (k : GranuleState) → OneOf (0 ∷ 1 ∷ 2 ∷ []) (tagOf Rattle.tables.proofs.pairs.GranuleState.the-type k) → k ≡ granule-state.Damaged → ⊥
+not-damaged : (k : GranuleState) → OneOf (0 ∷ 1 ∷ 2 ∷ []) (tagOf Rattle.pairs.proofs.pairs.GranuleState.the-type k) → k ≡ granule-state.Damaged → ⊥
 not-damaged granule-state.Vacant h e = let z : _≡_ {A = ℕ} 0 1 = cc in omega arith
 not-damaged (granule-state.Frame s f) h e = let z : _≡_ {A = ℕ} 0 1 = cc in omega arith
 not-damaged granule-state.Guarded h e = let z : _≡_ {A = ℕ} 0 1 = cc in omega arith

@@ -1,7 +1,7 @@
 ghost use mathlib.Core.Path.{_≡_};
 ghost use Rattle.granules.specs.Kind.{operation};
-ghost use Rattle.functions.specs.Table.{atLeastOne, upward, single, actionOf};
-use crate::numbers::Function;
+ghost use Rattle.actions.specs.Action.{atLeastOne, upward, single, actionOf};
+use functions::Function;
 use granules::Kind;
 use granules::Operation;
 use words::Granule;
@@ -25,12 +25,12 @@ pub enum Action {
     },
 }
 
-impl Function {
+impl Action {
     // What a call does once its tests have passed, with R2 as the count where it has one.
-    pub fn action(self, count: u64) -> Action
-        ensures { λ r. ⌜ r ≡ actionOf self count ⌝ }
+    pub fn of(function: Function, count: u64) -> Action
+        ensures { λ r. ⌜ r ≡ actionOf function count ⌝ }
     {
-        match self {
+        match function {
             Function::Features => Action::tell(0xFFD, 0),
             Function::Uid => Action::Tell {
                 r0: 0xB66F_B428,
@@ -51,9 +51,7 @@ impl Function {
             Function::Unknown => Action::Refuse,
         }
     }
-}
 
-impl Action {
     // Two registers told, the others zero.
     fn tell(r0: u32, r1: u32) -> Action
         ensures { λ r. ⌜ r ≡ Action.Tell r0 r1 0 0 ⌝ }

@@ -10,8 +10,8 @@ use Rattle.words.specs.declared.map_word.MapWord.{MapWord}
 use Rattle.words.specs.declared.map_word.MapWord.the-variants as map-word
 use Rattle.words.specs.declared.frame_word.FrameWord.{FrameWord}
 use Rattle.words.specs.declared.frame_word.FrameWord.the-variants as frame-word
 use Rattle.tables.specs.Row.{wordAt}
-use Rattle.tables.specs.Pair.{granuleState, pairAt, frameState, pairOf}
+use Rattle.pairs.specs.Pair.{granuleState, pairAt, frameState, pairOf}
 
 module _ (frames frames′ map map′ : List ℕ) (F : length frames ≡ length frames′) (W : length map ≡ length map′) where
   granule-same : (v g : ℕ) (d : MapWord) → ((s : Bool) (f : ℕ) → d ≡ map-word.Frame s f → getD frames f 0 ≡ getD frames′ f 0)

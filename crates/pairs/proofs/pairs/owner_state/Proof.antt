@@ -1,8 +1,8 @@
 -- Each case by the tests that led to it.
-use Rattle.tables.proofs.PairLaws.{owner-beyond, owner-tested}
+use Rattle.pairs.proofs.PairLaws.{owner-beyond, owner-tested}
 use borrow.Author.Needs.{needs}
-use Rattle.tables.proofs.pairs.owner_state.Statement.{statement}
-use Rattle.tables.proofs.pairs.owner_state.Tie as tie
+use Rattle.pairs.proofs.pairs.owner_state.Statement.{statement}
+use Rattle.pairs.proofs.pairs.owner_state.Tie as tie
 
 row-requires : tie.Need-row-requires
 row-requires c κs = search needs

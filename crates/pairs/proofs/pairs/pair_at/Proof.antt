@@ -1,9 +1,9 @@
 -- An index into the slot's row is a granule; past its end there is none.
 use mathlib.Core.Path.{_∙_}
-use Rattle.tables.proofs.PairLaws.{granule-in-row, granule-off-row}
+use Rattle.pairs.proofs.PairLaws.{granule-in-row, granule-off-row}
 use borrow.Author.Needs.{needs}
-use Rattle.tables.proofs.pairs.pair_at.Statement.{statement}
-use Rattle.tables.proofs.pairs.pair_at.Tie as tie
+use Rattle.pairs.proofs.pairs.pair_at.Statement.{statement}
+use Rattle.pairs.proofs.pairs.pair_at.Tie as tie
 
 row-requires : tie.Need-row-requires
 row-requires c κs = search needs

@@ -1,10 +1,10 @@
 -- Each case by what the frame's word said.
 use mathlib.Core.Path.{_∙_}
-use Rattle.tables.specs.Pair.{frameState}
-use Rattle.tables.proofs.PairLaws.{frame-reached, frame-none, owner-slot}
+use Rattle.pairs.specs.Pair.{frameState}
+use Rattle.pairs.proofs.PairLaws.{frame-reached, frame-none, owner-slot}
 use borrow.Author.Needs.{needs}
-use Rattle.tables.proofs.pairs.pair_of.Statement.{statement}
-use Rattle.tables.proofs.pairs.pair_of.Tie as tie
+use Rattle.pairs.proofs.pairs.pair_of.Statement.{statement}
+use Rattle.pairs.proofs.pairs.pair_of.Tie as tie
 
 mul-of : tie.Need-mul-of
 mul-of c = search needs

@@ -15,12 +15,12 @@ use Rattle.words.specs.declared.frame_word.FrameWord.the-variants as frame-word
 use Rattle.words.proofs.Booleans.{both-true}
 use Rattle.words.proofs.MapWordLaws.{named-frame}
 use Rattle.words.proofs.FrameWordLaws.{named-granule}
 use Rattle.tables.specs.Length.{widthOf}
 use Rattle.tables.specs.Row.{wordAt}
-use Rattle.tables.specs.Pair.{frameNamesBack, granuleState, granuleNamesBack, frameState}
-use Rattle.tables.specs.declared.pairs.GranuleState.{GranuleState}
-use Rattle.tables.specs.declared.pairs.GranuleState.the-variants as granule-state
-use Rattle.tables.specs.declared.pairs.FrameState.the-variants as frame-state
+use Rattle.pairs.specs.Pair.{frameNamesBack, granuleState, granuleNamesBack, frameState}
+use Rattle.pairs.specs.declared.pairs.GranuleState.{GranuleState}
+use Rattle.pairs.specs.declared.pairs.GranuleState.the-variants as granule-state
+use Rattle.pairs.specs.declared.pairs.FrameState.the-variants as frame-state
 
 -- a test that gives x or y gave y only if it gave no x; where it did not give y, it passed
 passed : {A : Type 0} (b : Bool) (x y : A) → (cond b x y ≡ y → ⊥) → b ≡ true

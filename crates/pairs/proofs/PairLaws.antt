@@ -13,12 +13,12 @@ use Rattle.words.specs.declared.map_word.MapWord.the-variants as map-word
 use Rattle.words.specs.declared.frame_word.FrameWord.{FrameWord}
 use Rattle.words.specs.declared.frame_word.FrameWord.the-variants as frame-word
 use Rattle.words.proofs.FrameWordLaws.{frame-fits}
 use Rattle.tables.specs.Length.{widthOf}
 use Rattle.tables.specs.Row.{rowOf, wordAt}
-use Rattle.tables.specs.Pair.{granuleState, pairAt, frameState, pairOf}
-use Rattle.tables.specs.declared.pairs.GranuleState.the-variants as granule-state
-use Rattle.tables.specs.declared.pairs.FrameState.the-variants as frame-state
+use Rattle.pairs.specs.Pair.{granuleState, pairAt, frameState, pairOf}
+use Rattle.pairs.specs.declared.pairs.GranuleState.the-variants as granule-state
+use Rattle.pairs.specs.declared.pairs.FrameState.the-variants as frame-state
 use Rattle.tables.proofs.RowLaws.{in-row, off-row}
 
 -- a granule whose map word names frame f
 module _ (frames : List ℕ) (v g f : ℕ) (s : Bool) where

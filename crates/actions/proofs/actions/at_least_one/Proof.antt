@@ -1,7 +1,7 @@
 -- By the test for zero.
 use borrow.Author.Tests.{eq-eqb, ne-eqb}
-use Rattle.functions.proofs.actions.at_least_one.Statement.{statement}
-use Rattle.functions.proofs.actions.at_least_one.Tie as tie
+use Rattle.actions.proofs.actions.at_least_one.Statement.{statement}
+use Rattle.actions.proofs.actions.at_least_one.Tie as tie
 
 returns : tie.Need-returns
 returns c = rw (eq-eqb _ 0 (c .if1 .taken))

@@ -1,8 +1,8 @@
 -- Row by row.
-use Rattle.functions.specs.Table.{actionOf}
+use Rattle.actions.specs.Action.{actionOf}
 use borrow.Author.Needs.{needs}
-use Rattle.functions.proofs.numbers.Function.action.Statement.{statement}
-use Rattle.functions.proofs.numbers.Function.action.Tie as tie
+use Rattle.actions.proofs.actions.Action.of.Statement.{statement}
+use Rattle.actions.proofs.actions.Action.of.Tie as tie
 
 enum-told : tie.Need-enum-told
 enum-told c = search needs
@@ -137,8 +137,8 @@ returns-13 : tie.Need-returns-13
 unfolding actionOf
 returns-13 c = rw (c .enum-told13 .given .1)
 
-pub action-spec : {M : Type 1} → statement M
-action-spec =
+pub of-spec : {M : Type 1} → statement M
+of-spec =
     tie.close
     (tie.spec
     enum-told

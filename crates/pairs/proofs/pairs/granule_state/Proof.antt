@@ -1,9 +1,9 @@
 -- Each case by the tests that led to it.
-use Rattle.tables.proofs.PairLaws.{frame-beyond, frame-tested}
-use Rattle.tables.specs.Pair.{granuleState}
+use Rattle.pairs.proofs.PairLaws.{frame-beyond, frame-tested}
+use Rattle.pairs.specs.Pair.{granuleState}
 use borrow.Author.Needs.{needs}
-use Rattle.tables.proofs.pairs.granule_state.Statement.{statement}
-use Rattle.tables.proofs.pairs.granule_state.Tie as tie
+use Rattle.pairs.proofs.pairs.granule_state.Statement.{statement}
+use Rattle.pairs.proofs.pairs.granule_state.Tie as tie
 
 of-requires : tie.Need-of-requires
 of-requires c κs = search needs

@@ -1,0 +1,4 @@
+pub mod PairLaws
+pub mod Found
+pub mod Locality
+pub mod Cases
