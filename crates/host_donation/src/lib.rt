@@ -1,5 +1,5 @@
 // The host's call that gives a frame to a guest.
-// It tests in document 01's order, and looks first and writes after. It rests on words, tables and records. It changes no record, and one
+// It tests in document 01's order, and looks first and writes after. It rests on words, tables, pairs and records. It changes no record, and one
 // word of each table.
 mod donation;
 mod states;

@@ -1,5 +1,6 @@
 // The host's calls about a frame: a waiting one is confirmed as cleared, or the host asks whether it may access one.
-// It tests in document 01's order, and looks first and writes after. It looks at no record. It rests on words, tables and records.
+// It tests in document 01's order, and looks first and writes after. It looks at no record. It rests on words, tables, pairs and
+// records.
 mod status;
 
 pub use status::access;

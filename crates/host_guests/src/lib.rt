@@ -1,5 +1,5 @@
 // The host's calls about a guest's slot: a guest is created, run, or its row is shown.
-// It tests in document 01's order, and looks first and writes after. It rests on words, tables, records and rows.
+// It tests in document 01's order, and looks first and writes after. It rests on tables, records and rows.
 // It writes no table: a new guest has no frame, and a row is shown as it is.
 mod creation;
 mod views;

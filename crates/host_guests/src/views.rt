@@ -1,4 +1,7 @@
 ghost use mathlib.Core.Path.{_≡_};
+ghost use Prim.Native.Nat.{_≤_};
+ghost use lib.ListN.{length};
+ghost use Rattle.tables.specs.Row.{boundsOf, placeAt};
 ghost use Rattle.records.specs.Tests.{firstRefusal, refusalBy};
 ghost use Rattle.host_guests.specs.Calls.{showTests, showOf};
 use records::Admission;
@@ -8,10 +11,11 @@ use records::Monitor;
 use tables::map_length_holds;
 use tables::row;
 
-// The row of the guest in a slot, as that part of the map table; where the call is refused, an empty part. It answers for any map table,
-// slot number and records.
+// The row of the guest in a slot, as that part of the map table itself, which begins at the row's first word; where the call is refused, an
+// empty part. It answers for any map table, slot number and records.
 pub fn show(monitor: Monitor, map: &[u32], slot: u64) -> &[u32]
     ensures { λ r. ⌜ now r ≡ showOf slot monitor (now (map .entry)) .part ⌝ }
+    ensures { λ r. ⌜ (1 ≤ length (now r) → r .ptr ≡ placeAt (map .entry .ptr) (boundsOf (length (now (map .entry))) slot .start)) ⌝ }
 {
     match show_admission(map.len(), monitor.guest(slot)) {
         Admission::Refused(_) => &map[0..0],

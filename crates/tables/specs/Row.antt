@@ -29,3 +29,7 @@ wordIndex n v g = v * widthOf n + g
 -- the word of granule g of slot v
 abbrev pub wordAt : List ℕ → ℕ → ℕ → ℕ
 wordAt map v g = getD map (wordIndex (length map) v g) 0
+
+-- where word i of a table stands in memory, of which the first word stands at p: a block, and a byte in it
+abbrev pub placeAt : ℕ × ℕ → ℕ → ℕ × ℕ
+placeAt p i = (p .0, i * 4 + p .1)

@@ -1,6 +1,7 @@
 ghost use mathlib.Core.Path.{_≡_};
+ghost use lib.ListN.{length};
 ghost use Rattle.tables.specs.Length.{widthOf};
-ghost use Rattle.tables.specs.Row.{boundsOf, rowOf};
+ghost use Rattle.tables.specs.Row.{boundsOf, rowOf, placeAt};
 
 // Where a slot's row stands in a map table: from word `start` to before word `end`.
 pub struct RowBounds {
@@ -31,9 +32,10 @@ pub fn row_bounds(words: usize, slot: u64) -> RowBounds
     }
 }
 
-// The row itself, as that part of the map table.
+// The row itself, as that part of the map table: its words, and where they stand.
 pub fn row(map: &[u32], slot: u64) -> &[u32]
     ensures { λ r. ⌜ now r ≡ rowOf (now (map .entry)) slot ⌝ }
+    ensures { λ r. ⌜ r .ptr ≡ placeAt (map .entry .ptr) (boundsOf (length (now (map .entry))) slot .start) ⌝ }
 {
     let at = row_bounds(map.len(), slot);
     let start = at.start;

@@ -28,7 +28,7 @@ returns c =
     let read = shown .before in
     let entry = read .before .before .args in (
       told .put-answer .ensures ∙ rw (told .before .show-verdict .ensures, read .monitor-in .ensures),
-      part-empty (entry .slot) (monitorIn (entry .records .now)) (entry .map .now) _ (rw (read .monitor-in .ensures) at (shown .show .ensures)) (c .before .if1 .taken),
+      part-empty (entry .slot) (monitorIn (entry .records .now)) (entry .map .now) _ (rw (read .monitor-in .ensures) at (shown .show .ensures .0)) (c .before .if1 .taken),
     )
 
 returns-2 : tie.Need-returns-2
@@ -38,7 +38,7 @@ returns-2 c =
     let read = shown .before in
     let entry = read .before .before .args in (
       told .put-answer .ensures ∙ rw (told .before .show-verdict .ensures, read .monitor-in .ensures),
-      part-there (entry .slot) (monitorIn (entry .records .now)) (entry .map .now) _ (rw (read .monitor-in .ensures) at (shown .show .ensures)) (c .before .if1 .left) _ (told .before .before .before .row-bounds .ensures),
+      part-there (entry .slot) (monitorIn (entry .records .now)) (entry .map .now) _ (rw (read .monitor-in .ensures) at (shown .show .ensures .0)) (c .before .if1 .left) _ (told .before .before .before .row-bounds .ensures),
     )
 
 pub clundip-show-spec : {M : Type 1} → statement M

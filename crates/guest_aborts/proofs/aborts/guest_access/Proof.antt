@@ -15,7 +15,7 @@ access-unbacked-requires : tie.Need-access-unbacked-requires
 access-unbacked-requires c κs = search needs
 
 returns : tie.Need-returns
-returns c = c .access-unbacked .ensures ∙ access-beyond _ _ _ (c .before .before .before .before .before .before .pre) _ (c .before .before .before .row .ensures) _ _ (c .before .before .holding .ensures) _ (c .before .if1 .taken)
+returns c = c .access-unbacked .ensures ∙ access-beyond _ _ _ (c .before .before .before .before .before .before .pre) _ (c .before .before .before .row .ensures .0) _ _ (c .before .before .holding .ensures) _ (c .before .if1 .taken)
 
 mul-granule-state : tie.Need-mul-granule-state
 mul-granule-state c = search needs
@@ -42,16 +42,16 @@ enum-told-4 : tie.Need-enum-told-4
 enum-told-4 c = search needs
 
 returns-2 : tie.Need-returns-2
-returns-2 c = c .access-unbacked2 .ensures ∙ access-within _ _ _ (c .before .before .before .before .before .before .before .before .before .before .pre) _ (c .before .before .before .before .before .before .before .row .ensures) _ _ (c .before .before .before .before .before .before .holding .ensures) _ (c .before .before .before .before .before .if1 .left) _ _ (c .before .before .before .granule-state .ensures) (c .before .enum-told .given .1)
+returns-2 c = c .access-unbacked2 .ensures ∙ access-within _ _ _ (c .before .before .before .before .before .before .before .before .before .before .pre) _ (c .before .before .before .before .before .before .before .row .ensures .0) _ _ (c .before .before .before .before .before .before .holding .ensures) _ (c .before .before .before .before .before .if1 .left) _ _ (c .before .before .before .granule-state .ensures) (c .before .enum-told .given .1)
 
 returns-3 : tie.Need-returns-3
-returns-3 c = access-within _ _ _ (c .before .before .before .before .before .before .before .before .before .pre) _ (c .before .before .before .before .before .before .row .ensures) _ _ (c .before .before .before .before .before .holding .ensures) _ (c .before .before .before .before .if1 .left) _ _ (c .before .before .granule-state .ensures) (c .enum-told2 .given .1)
+returns-3 c = access-within _ _ _ (c .before .before .before .before .before .before .before .before .before .pre) _ (c .before .before .before .before .before .before .row .ensures .0) _ _ (c .before .before .before .before .before .holding .ensures) _ (c .before .before .before .before .if1 .left) _ _ (c .before .before .granule-state .ensures) (c .enum-told2 .given .1)
 
 returns-4 : tie.Need-returns-4
-returns-4 c = access-within _ _ _ (c .before .before .before .before .before .before .before .before .before .pre) _ (c .before .before .before .before .before .before .row .ensures) _ _ (c .before .before .before .before .before .holding .ensures) _ (c .before .before .before .before .if1 .left) _ _ (c .before .before .granule-state .ensures) (c .enum-told3 .given .1)
+returns-4 c = access-within _ _ _ (c .before .before .before .before .before .before .before .before .before .pre) _ (c .before .before .before .before .before .before .row .ensures .0) _ _ (c .before .before .before .before .before .holding .ensures) _ (c .before .before .before .before .if1 .left) _ _ (c .before .before .granule-state .ensures) (c .enum-told3 .given .1)
 
 returns-5 : tie.Need-returns-5
-returns-5 c = access-within _ _ _ (c .before .before .before .before .before .before .before .before .before .pre) _ (c .before .before .before .before .before .before .row .ensures) _ _ (c .before .before .before .before .before .holding .ensures) _ (c .before .before .before .before .if1 .left) _ _ (c .before .before .granule-state .ensures) (c .enum-told4 .given .1)
+returns-5 c = access-within _ _ _ (c .before .before .before .before .before .before .before .before .before .pre) _ (c .before .before .before .before .before .before .row .ensures .0) _ _ (c .before .before .before .before .before .holding .ensures) _ (c .before .before .before .before .if1 .left) _ _ (c .before .before .granule-state .ensures) (c .enum-told4 .given .1)
 
 pub guest-access-spec : {M : Type 1} → statement M
 guest-access-spec =

@@ -28,7 +28,7 @@ returns : tie.Need-returns
 returns c =
     let tested = c .before .before .before .before .before in
     let start = tested .before .before .before .args in
-    rw (c .check2 .ensures, c .before .check .ensures, c .before .before .row-vacant .ensures, c .before .before .before .row .ensures)
+    rw (c .check2 .ensures, c .before .check .ensures, c .before .before .row-vacant .ensures, c .before .before .before .row .ensures .0)
     (rw (← (tested .lengths-hold .ensures), c .before .before .before .before .if1 .taken)
     (tests-in-order ((rowVacant (rowOf (start .map .now) (start .slot)), Damaged) ∷ (ltb (start .slot) 8, NoFreeSlot) ∷ [])))
 

@@ -1,5 +1,6 @@
 -- By the admission.
 use Rattle.host_guests.proofs.GuestLaws.{show-refused, show-passed}
+use native.Mathlib.Omega.{arith}
 use borrow.Author.Needs.{needs}
 use Rattle.host_guests.proofs.views.show.Statement.{statement}
 use Rattle.host_guests.proofs.views.show.Tie as tie
@@ -31,14 +32,18 @@ row-requires c κs = search needs
 returns : tie.Need-returns
 returns c =
     let admitted = c .before .before .before in
-    let map = admitted .before .before .before .args .map .now in
-    rw (show-refused _ _ map _ (admitted .before .guest .ensures) _ (admitted .show-admission .ensures) _ (c .before .enum-told .given .1))
+    let map = admitted .before .before .before .args .map .now in (
+      rw (show-refused _ _ map _ (admitted .before .guest .ensures) _ (admitted .show-admission .ensures) _ (c .before .enum-told .given .1)),
+      λ h. absurd (omega arith),
+    )
 
 returns-2 : tie.Need-returns-2
 returns-2 c =
     let admitted = c .before .before .before in
-    let map = admitted .before .before .before .args .map .now in
-    rw (c .row .ensures, show-passed _ _ map _ (admitted .before .guest .ensures) _ (admitted .show-admission .ensures) (c .before .enum-told2 .given .1))
+    let map = admitted .before .before .before .args .map .now in (
+      rw (c .row .ensures .0, show-passed _ _ map _ (admitted .before .guest .ensures) _ (admitted .show-admission .ensures) (c .before .enum-told2 .given .1)),
+      λ h. c .row .ensures .1,
+    )
 
 pub show-spec : {M : Type 1} → statement M
 show-spec =

@@ -28,7 +28,7 @@ returns c =
     let tested = c .before .before .before .before .before in
     let start = tested .before .before .before .args in
     let row = rowOf (start .map .now) (start .slot) in
-    rw (c .check2 .ensures, c .before .row-undamaged .ensures, c .before .before .row .ensures, c .before .before .before .check .ensures)
+    rw (c .check2 .ensures, c .before .row-undamaged .ensures, c .before .before .row .ensures .0, c .before .before .before .check .ensures)
     (rw (← (tested .lengths-hold .ensures), c .before .before .before .before .if1 .taken)
     (tests-in-order ((start .guest .live, NoGuest) ∷ (rowUndamaged (start .frames .now) (start .slot) row, Damaged) ∷ [])))
 

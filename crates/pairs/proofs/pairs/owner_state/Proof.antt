@@ -17,13 +17,13 @@ names-requires : tie.Need-names-requires
 names-requires c κs = search needs
 
 returns : tie.Need-returns
-returns c = owner-tested _ _ _ _ _ _ (c .before .before .before .before .row .ensures) (c .before .before .before .if1 .taken) _ _ (c .before .names .ensures) (c .if2 .taken)
+returns c = owner-tested _ _ _ _ _ _ (c .before .before .before .before .row .ensures .0) (c .before .before .before .if1 .taken) _ _ (c .before .names .ensures) (c .if2 .taken)
 
 returns-2 : tie.Need-returns-2
-returns-2 c = owner-tested _ _ _ _ _ _ (c .before .before .before .before .row .ensures) (c .before .before .before .if1 .taken) _ _ (c .before .names .ensures) (c .if2 .left)
+returns-2 c = owner-tested _ _ _ _ _ _ (c .before .before .before .before .row .ensures .0) (c .before .before .before .if1 .taken) _ _ (c .before .names .ensures) (c .if2 .left)
 
 returns-3 : tie.Need-returns-3
-returns-3 c = owner-beyond _ _ _ _ _ _ (c .before .row .ensures) (c .before .before .before .pre) (c .if1 .left)
+returns-3 c = owner-beyond _ _ _ _ _ _ (c .before .row .ensures .0) (c .before .before .before .pre) (c .if1 .left)
 
 pub owner-state-spec : {M : Type 1} → statement M
 owner-state-spec =

@@ -18,10 +18,10 @@ granule-state-requires : tie.Need-granule-state-requires
 granule-state-requires c κs = search needs
 
 returns : tie.Need-returns
-returns c = c .granule-state .ensures ∙ granule-in-row _ _ _ _ _ (c .before .before .before .row .ensures) (c .before .before .if1 .taken)
+returns c = c .granule-state .ensures ∙ granule-in-row _ _ _ _ _ (c .before .before .before .row .ensures .0) (c .before .before .if1 .taken)
 
 returns-2 : tie.Need-returns-2
-returns-2 c = granule-off-row _ _ _ _ _ (c .before .row .ensures) (c .if1 .left)
+returns-2 c = granule-off-row _ _ _ _ _ (c .before .row .ensures .0) (c .if1 .left)
 
 pub pair-at-spec : {M : Type 1} → statement M
 pair-at-spec =

@@ -21,7 +21,7 @@ part-result-end : tie.Need-part-result-end
 part-result-end c = omega (arith, in-order (c .before .before .args .map .now) (c .before .before .args .slot) (c .row-bounds .result) (c .row-bounds .ensures))
 
 returns : tie.Need-returns
-returns c = rw (c .before .row-bounds .ensures)
+returns c = (rw (c .before .row-bounds .ensures), rw (c .before .row-bounds .ensures))
 
 pub row-spec : {M : Type 1} → statement M
 row-spec =
