@@ -11,7 +11,7 @@ use Rattle.runs.proofs.Runs.{StandsAt, run-none}
 use Rattle.records.proofs.TestLaws.{unless-either}
 use Rattle.guest_hypercalls.proofs.HypercallLaws.{hypercall-either}
 use Rattle.words.specs.Granule.{granuleOf}
-use Rattle.records.specs.Answer.{numbersOf}
+use Rattle.records.specs.Answer.{returned, numbersOf}
 use Rattle.records.specs.Monitor.{guestOf}
 use Rattle.records.specs.State.{State, Answered, answered}
 use Rattle.records.specs.Tests.{firstRefusal, unlessRefused}
@@ -19,7 +19,6 @@ use Rattle.records.specs.declared.answer.Answer.{Answer}
 use Rattle.records.specs.declared.answer.Answer.the-variants.{Done}
 use Rattle.granules.specs.Step.{Place, place, Refusal, tableStep}
 use Rattle.ranges.specs.Range.{rangeLimit}
-use Rattle.functions.specs.Table.{returned}
 use Rattle.functions.specs.declared.rows.Error.{Error}
 use Rattle.actions.specs.declared.actions.Action.{Action}
 use Rattle.actions.specs.declared.actions.Action.the-variants as action

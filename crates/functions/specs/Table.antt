@@ -2,10 +2,10 @@
 use mathlib.Core.Bool.{Bool, true, _&&_}
 use Prim.Native.Nat.{ℕ, _%_}
 use lib.Dec.{eqb, ltb}
-use lib.IntN.{ℤ, negsuc}
+use lib.IntN.{negsuc}
 use Rattle.words.specs.Granule.{isBase}
+use Rattle.records.specs.Answer.{returned}
 use Rattle.records.specs.declared.answer.Answer.{Answer}
-use Rattle.records.specs.declared.answer.Answer.the-variants.{Return}
 use Rattle.records.specs.declared.guest.Guest.{Guest}
 use Rattle.functions.specs.declared.numbers.Function.{Function}
 use Rattle.functions.specs.declared.numbers.Function.the-variants.{Features, Uid, MemoryInfo, Share, Unshare, GuardInfo, Enroll, GuardMap, GuardUnmap, Relinquish, RangeGuardMap, RangeGuardUnmap, Unknown}
@@ -33,10 +33,6 @@ abbrev pub permits : Condition → Guest → Bool
 permits Nothing g = true
 permits Vendor g = eqb (g .«vendor_hyp» % 2) 1
 permits Enrolment g = g .enrolled
-
--- "Registers not named are returned as zero."
-abbrev pub returned : ℤ → ℕ → Answer
-returned a b = Return a b 0 0
 
 abbrev pub errorAnswer : Error → Answer
 errorAnswer NotSupported = returned (negsuc 0) 0

@@ -77,18 +77,8 @@ impl Error {
         ensures { λ r. ⌜ r ≡ errorAnswer self ⌝ }
     {
         match self {
-            Error::NotSupported => Answer::Return {
-                r0: -1,
-                r1: 0,
-                r2: 0,
-                r3: 0,
-            },
-            Error::InvalidParameter => Answer::Return {
-                r0: -3,
-                r1: 0,
-                r2: 0,
-                r3: 0,
-            },
+            Error::NotSupported => Answer::returned(-1, 0),
+            Error::InvalidParameter => Answer::returned(-3, 0),
         }
     }
 }

@@ -7,6 +7,7 @@ use lib.IntN.{pos}
 use lib.ListN.{length}
 use Rattle.runs.specs.Run.{Stop}
 use Rattle.records.specs.Monitor.{guestOf, withGuest}
+use Rattle.records.specs.Answer.{returned}
 use Rattle.records.specs.State.{State, state, Answered, answered}
 use Rattle.records.specs.Tests.{firstRefusal, refusalBy, unlessRefused}
 use Rattle.records.specs.declared.guest.Guest.{Guest}
@@ -19,7 +20,7 @@ use Rattle.granules.specs.Step.{Refusal}
 use Rattle.guest_callers.specs.Callers.{callerTests}
 use Rattle.guest_callers.proofs.CallerLaws.{caller-tested}
 use Rattle.functions.specs.Function.{askedBy}
-use Rattle.functions.specs.Table.{returned, callRowOf}
+use Rattle.functions.specs.Table.{callRowOf}
 use Rattle.actions.specs.Action.{actionOf}
 use Rattle.functions.specs.declared.numbers.Function.{Function}
 use Rattle.functions.specs.declared.rows.Registers.{Registers}

@@ -7,6 +7,7 @@ use lib.ListN.{length}
 use Rattle.runs.specs.Run.{Stop, complete, refused, outOfFuel, End, ended, run}
 use Rattle.words.specs.Granule.{granuleOf}
 use Rattle.records.specs.Monitor.{guestOf, withGuest, enroll}
+use Rattle.records.specs.Answer.{returned}
 use Rattle.records.specs.State.{State, state, Answered, answered}
 use Rattle.records.specs.Tests.{Tests, firstRefusal, unlessRefused}
 use Rattle.records.specs.declared.guest.Guest.{Guest}
@@ -17,7 +18,7 @@ use Rattle.granules.specs.Step.{Place, place, Refusal, isDamaged, notDone, tabl
 use Rattle.ranges.specs.Range.{rangeLimit}
 use Rattle.guest_callers.specs.Callers.{callerTests}
 use Rattle.functions.specs.Function.{askedBy}
-use Rattle.functions.specs.Table.{permits, returned, errorAnswer, callRowOf, registersHold}
+use Rattle.functions.specs.Table.{permits, errorAnswer, callRowOf, registersHold}
 use Rattle.actions.specs.Action.{actionOf}
 use Rattle.functions.specs.declared.rows.Registers.{Registers}
 use Rattle.functions.specs.declared.rows.Error.{Error}

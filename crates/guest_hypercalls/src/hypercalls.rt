@@ -126,12 +126,7 @@ fn act(
         Action::Enroll => Served {
             guest: guest.enroll(),
             changed: true,
-            answer: Answer::Return {
-                r0: 0,
-                r1: 0,
-                r2: 0,
-                r3: 0,
-            },
+            answer: Answer::returned(0, 0),
         },
         Action::Change {
             operation,

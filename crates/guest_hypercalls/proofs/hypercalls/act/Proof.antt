@@ -36,6 +36,9 @@ enum-told-2 c = search needs
 enroll-requires : tie.Need-enroll-requires
 enroll-requires c κs = search needs
 
+returned-requires : tie.Need-returned-requires
+returned-requires c κs = search needs
+
 enum-known-action-2 : tie.Need-enum-known-action-2
 enum-known-action-2 c = search needs
 
@@ -62,7 +65,7 @@ returns-2 c =
 
 returns-3 : tie.Need-returns-3
 unfolding actOf
-returns-3 c = (λ monitor slot own. rw (c .before .enum-told2 .given .1, c .enroll .ensures, own), λ same. cc)
+returns-3 c = (λ monitor slot own. rw (c .before .before .enum-told2 .given .1, c .before .enroll .ensures, c .returned .ensures, own), λ same. cc)
 
 same-length : tie.Need-same-length
 same-length c = search needs
@@ -90,6 +93,7 @@ act-spec =
     cast-t21
     enum-told-2
     enroll-requires
+    returned-requires
     enum-known-action-2
     change-row-requires
     answer-of-requires
