@@ -14,6 +14,7 @@ from trace_tool.text import KINDS, LAYOUTS, LENGTHS, VERSION, TextError, decode,
 SEED = 20
 RANDOM_TRACES = 2000
 EXAMPLE = ["create", "donate 0 3 5", "run 0", "hypercall 0 share 0x5000 1 0"]
+NO_EXAMPLES = ["empty.trace", "long.trace"]
 BAD_TEXT = {
     "create\n\nsing 0": "line 3: expected one of create, donate, ",
     "create 0": "line 1: expected create [slot=N]; found 'create 0'",
@@ -74,11 +75,13 @@ def gate_checks(root: Path) -> Iterator[tuple[str, bool]]:
     copies = {
         crates / "replay" / "stdin": "every_kind.trace",
         crates / "replay" / "stdout": "every_kind.out",
-        crates / "replay_example" / "stdin": "example.trace",
-        crates / "replay_example" / "stdout": "example.out",
-    } | {path: path.name for path in (crates / "replay_bad" / "data").iterdir()}
+    } | {path: path.name for path in (crates / "replay_logs" / "data").iterdir() if path.name not in NO_EXAMPLES}
     for copy, example in sorted(copies.items()):
         yield f"{copy.relative_to(root)} is examples/{example}", copy.read_bytes() == (examples / example).read_bytes()
+    names = (crates / "replay_logs" / "args").read_text().split()
+    outputs = [(examples / name).with_suffix(".out").read_bytes() for name in names if name not in NO_EXAMPLES]
+    stdout = (crates / "replay_logs" / "stdout").read_bytes()
+    yield "crates/replay_logs/stdout begins with the outputs of the examples", stdout.startswith(b"".join(outputs))
 
 
 def command_checks(tool: Path, example: Path) -> Iterator[tuple[str, bool]]:

@@ -1,8 +1,8 @@
 -- It ends: the measure is the number of arguments left.
 use Prim.Native.Nat.{_-_}
 use borrow.Author.Needs.{needs}
-use Rattle.replay_bad.proofs.main.Statement.{statement}
-use Rattle.replay_bad.proofs.main.Tie as tie
+use Rattle.replay_logs.proofs.main.Statement.{statement}
+use Rattle.replay_logs.proofs.main.Tie as tie
 
 abbrev Inv-loop : tie.InvT-loop
 Inv-loop count number₀ number = Unit {0}

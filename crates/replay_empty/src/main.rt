@@ -1,4 +1,0 @@
-// The empty log: the same program as replay, on no input. It rests on replay_stream, and is a crate since a program of the gate has one input.
-fn main() {
-    replay_stream::replay(libc::STDIN_FILENO, libc::STDOUT_FILENO);
-}
