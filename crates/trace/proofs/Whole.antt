@@ -23,7 +23,8 @@ use Rattle.rows.specs.WholeRow.{rowVacant}
 use Rattle.host_donation.specs.Calls.{donateOf}
 use Rattle.host_guests.specs.Calls.{freeFrom, createOf, runOf}
 use Rattle.calls.specs.Step.{step}
-use Rattle.trace_records.specs.Record.{kindOf, lengthOf, askedIn, decodeOf}
+use Rattle.trace_kinds.specs.Kind.{kindOf, lengthOf}
+use Rattle.trace_records.specs.Record.{askedIn, decodeOf}
 use Rattle.trace_records.specs.declared.decoding.Decoded.{Decoded}
 use Rattle.trace_records.specs.declared.decoding.Decoded.the-variants.{Record, Bad, Unfinished}
 use Rattle.trace_records.proofs.DecodeLaws.{unfinished-size}

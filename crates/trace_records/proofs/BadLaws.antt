@@ -8,11 +8,13 @@ use borrow.Author.Tests.{ltb-true, ltb-false, eqb-true, eqb-false, le-ltb, ne-eq
 use lib.Dec.{eqb, ltb}
 use lib.ListN.{length, length-append}
 use Rattle.words.proofs.Booleans.{both-true, false-unless, and-false, never}
-use Rattle.trace_records.specs.declared.kinds.Kind.{Kind}
+use Rattle.trace_kinds.specs.declared.kinds.Kind.{Kind}
 use Rattle.trace_records.specs.declared.decoding.Decoded.{Decoded}
 use Rattle.trace_records.specs.declared.decoding.Decoded.the-variants.{Bad, Unfinished}
-use Rattle.trace_records.specs.Record.{kindOf, lengthOf, bigEndian, askedIn, someLength, decodeOf}
-use Rattle.trace_records.proofs.KindLaws.{length-at-most, length-some, asked-stays}
+use Rattle.trace_kinds.specs.Kind.{kindOf, lengthOf, someLength}
+use Rattle.trace_records.specs.Record.{bigEndian, askedIn, decodeOf}
+use Rattle.trace_kinds.proofs.LengthLaws.{length-at-most, length-some}
+use Rattle.trace_records.proofs.KindLaws.{asked-stays}
 use Rattle.trace_records.proofs.DecodeLaws.{header, byHeader, four}
 
 -- a fault in one of the first three bytes can't be mended

@@ -10,8 +10,10 @@ use lib.ListN.{length, length-append}
 use Rattle.calls.specs.declared.call.Call.{Call}
 use Rattle.trace_records.specs.declared.decoding.Decoded.{Decoded}
 use Rattle.trace_records.specs.declared.decoding.Decoded.the-variants.{Record, Bad, Unfinished}
-use Rattle.trace_records.specs.Record.{kindOf, lengthOf, bigEndian, askedIn, startHolds, decodeOf}
-use Rattle.trace_records.proofs.KindLaws.{length-at-most, asked-stays, asked-size, asked-ends}
+use Rattle.trace_kinds.specs.Kind.{kindOf, lengthOf, startHolds}
+use Rattle.trace_records.specs.Record.{bigEndian, askedIn, decodeOf}
+use Rattle.trace_kinds.proofs.LengthLaws.{length-at-most}
+use Rattle.trace_records.proofs.KindLaws.{asked-stays, asked-size, asked-ends}
 
 -- the test of the first four bytes, for the length n of their kind
 abbrev pub header : ℕ → ℕ → ℕ → ℕ → Bool

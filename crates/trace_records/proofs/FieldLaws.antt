@@ -1,7 +1,7 @@
--- Laws of the fields of a record: the number of some bytes as it grows by one, why it fits, and a byte that is there.
+-- Laws of the fields of a record: the number of some bytes as it grows by one, and why it fits.
 use mathlib.Core.Path.{_≡_, refl}
 use mathlib.Core.List.{List, [], _∷_, _++_}
-use Prim.Native.Nat.{ℕ, suc, zero, _+_, _*_, _^_, _<_, _≤_}
+use Prim.Native.Nat.{ℕ, _+_, _*_, _^_, _<_, _≤_}
 use native.Mathlib.Nat.{pow-suc, pow-le-pow-right}
 use native.Mathlib.Numerals.{add-one}
 use native.Mathlib.Omega.{arith}
@@ -23,9 +23,3 @@ below-more-bytes value i b v h = rw (add-one, pow-suc) (omega arith)
 
 pub eight-bytes-fit : (value i : ℕ) → value < 256 ^ i → i ≤ 8 → value < 2 ^ 64
 eight-bytes-fit value i v h = omega (arith, pow-le-pow-right {n = 256} (omega arith) {j = 8} h)
-
--- a byte that is there, whatever stands for one that is not
-pub read-within : (s : List ℕ) (i d e : ℕ) → i < length s → getD s i d ≡ getD s i e
-read-within [] i d e h = absurd (omega arith)
-read-within (x ∷ xs) zero d e h = refl
-read-within (x ∷ xs) (suc i) d e h = read-within xs i d e (omega arith)

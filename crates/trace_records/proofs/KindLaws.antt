@@ -1,46 +1,16 @@
--- Laws by the kind of a record: its length, and what a whole record asks for, which does not hang on what follows it.
+-- Laws by the kind of a record: what a whole record asks for does not hang on what follows it.
 use mathlib.Core.Path.{_≡_, refl}
-use mathlib.Core.Bool.{true}
 use mathlib.Core.List.{List, _++_}
 use Prim.Native.Nat.{ℕ, _+_, _*_, _≤_, _<_}
 use native.Mathlib.Omega.{arith}
 use lib.ListN.{length, drop, length-drop, List·getD-append}
 use lib.Seq.{take-append-le, drop-append-le}
 use Rattle.calls.specs.declared.call.Call.{Call}
-use Rattle.trace_records.specs.declared.kinds.Kind.{Kind}
-use Rattle.trace_records.specs.declared.kinds.Kind.the-variants.{Create, Donate, Run, Hypercall, Abort, Remove, Cleared, Access, RegisterRead, RegisterWrite, Unknown}
+use Rattle.trace_kinds.specs.Kind.{lengthOf}
+use Rattle.trace_kinds.specs.declared.kinds.Kind.{Kind}
+use Rattle.trace_kinds.specs.declared.kinds.Kind.the-variants.{Create, Donate, Run, Hypercall, Abort, Remove, Cleared, Access, RegisterRead, RegisterWrite, Unknown}
 use Rattle.trace_records.specs.declared.decoding.Decoded.the-variants.{Record, Unfinished}
-use Rattle.trace_records.specs.Record.{lengthOf, slotIn, argumentIn, askedIn, someLength}
-
--- no record is longer than a hypercall's
-pub length-at-most : (k : Kind) → lengthOf k ≤ 35
-unfolding lengthOf
-length-at-most Create = omega arith
-length-at-most Donate = omega arith
-length-at-most Run = omega arith
-length-at-most Hypercall = omega arith
-length-at-most Abort = omega arith
-length-at-most Remove = omega arith
-length-at-most Cleared = omega arith
-length-at-most Access = omega arith
-length-at-most RegisterRead = omega arith
-length-at-most RegisterWrite = omega arith
-length-at-most Unknown = omega arith
-
--- a kind has one of the lengths that are accepted, or none
-pub length-some : (k : Kind) → 0 < lengthOf k → someLength (lengthOf k) ≡ true
-unfolding lengthOf
-length-some Create h = refl
-length-some Donate h = refl
-length-some Run h = refl
-length-some Hypercall h = refl
-length-some Abort h = refl
-length-some Remove h = refl
-length-some Cleared h = refl
-length-some Access h = refl
-length-some RegisterRead h = refl
-length-some RegisterWrite h = refl
-length-some Unknown h = absurd (omega arith)
+use Rattle.trace_records.specs.Record.{slotIn, argumentIn, askedIn}
 
 slot-stays : (s t : List ℕ) → 4 < length s → slotIn (s ++ t) ≡ slotIn s
 slot-stays s t h = List·getD-append s t 0 4 h

@@ -9,12 +9,13 @@ use lib.Dec.{eqb, ltb}
 use lib.ListN.{length, replicate, length-append}
 use Rattle.words.proofs.Booleans.{both-true}
 use Rattle.calls.specs.declared.call.Call.{Call}
-use Rattle.trace_records.specs.declared.kinds.Kind.{Kind}
-use Rattle.trace_records.specs.declared.kinds.Kind.the-variants.{Create, Donate, Run, Hypercall, Abort, Remove, Cleared, Access, RegisterRead, RegisterWrite, Unknown}
+use Rattle.trace_kinds.specs.declared.kinds.Kind.{Kind}
+use Rattle.trace_kinds.specs.declared.kinds.Kind.the-variants.{Create, Donate, Run, Hypercall, Abort, Remove, Cleared, Access, RegisterRead, RegisterWrite, Unknown}
 use Rattle.trace_records.specs.declared.decoding.Decoded.{Decoded}
 use Rattle.trace_records.specs.declared.decoding.Decoded.the-variants.{Record, Bad, Unfinished}
-use Rattle.trace_records.specs.Record.{kindOf, lengthOf, bigEndian, askedIn, someLength, startHolds, decodeOf}
-use Rattle.trace_records.proofs.KindLaws.{length-at-most}
+use Rattle.trace_kinds.specs.Kind.{kindOf, lengthOf, someLength, startHolds}
+use Rattle.trace_records.specs.Record.{bigEndian, askedIn, decodeOf}
+use Rattle.trace_kinds.proofs.LengthLaws.{length-at-most}
 use Rattle.trace_records.proofs.DecodeLaws.{header, byHeader, four}
 
 abbrev zeros : List ℕ

@@ -1,18 +1,19 @@
 ghost use mathlib.Core.Path.{_≡_};
 ghost use Prim.Native.Nat.{_+_, _≤_};
 ghost use lib.ListN.{length};
-ghost use Rattle.trace_records.specs.Record.{lengthOf, askedIn, decodeOf};
+ghost use Rattle.trace_kinds.specs.Kind.{lengthOf};
+ghost use Rattle.trace_records.specs.Record.{askedIn, decodeOf};
 use crate::fields::argument;
 use crate::fields::header_holds;
 use crate::fields::slot;
-use crate::fields::start_holds;
-use crate::kinds::Kind;
 use crate::requests::abort;
 use crate::requests::donation;
 use crate::requests::hypercall;
 use crate::requests::register_read;
 use crate::requests::register_write;
 use calls::Call;
+use trace_kinds::Kind;
+use trace_kinds::start_holds;
 
 // What the first bytes of a log are.
 pub enum Decoded {

@@ -1,7 +1,8 @@
 -- By the kind: a whole record of it has the bytes that its fields need, and its call is what its function ensures.
 use mathlib.Core.Path.{ap}
 use native.Mathlib.Omega.{arith}
-use Rattle.trace_records.specs.Record.{lengthOf, askedIn}
+use Rattle.trace_kinds.specs.Kind.{lengthOf}
+use Rattle.trace_records.specs.Record.{askedIn}
 use borrow.Author.Needs.{needs}
 use Rattle.trace_records.proofs.decoding.asked.Statement.{statement}
 use Rattle.trace_records.proofs.decoding.asked.Tie as tie

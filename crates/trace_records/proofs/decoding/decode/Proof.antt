@@ -4,7 +4,7 @@ use Prim.Native.Nat.{_+_}
 use lib.ListN.{length}
 use borrow.Author.Tests.{lt-ltb, le-ltb}
 use Rattle.trace_records.specs.Record.{decodeOf}
-use Rattle.trace_records.proofs.KindLaws.{length-at-most}
+use Rattle.trace_kinds.proofs.LengthLaws.{length-at-most}
 use borrow.Author.Needs.{needs}
 use Rattle.trace_records.proofs.decoding.decode.Statement.{statement}
 use Rattle.trace_records.proofs.decoding.decode.Tie as tie

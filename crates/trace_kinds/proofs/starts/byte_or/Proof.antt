@@ -1,10 +1,10 @@
 -- A byte that is there is read; past the end the other stands.
 use lib.ListN.{List·getD-eq-default}
 use mathlib.Core.Path.{sym}
-use Rattle.trace_records.proofs.FieldLaws.{read-within}
+use Rattle.trace_kinds.proofs.ByteLaws.{read-within}
 use borrow.Author.Needs.{needs}
-use Rattle.trace_records.proofs.fields.byte_or.Statement.{statement}
-use Rattle.trace_records.proofs.fields.byte_or.Tie as tie
+use Rattle.trace_kinds.proofs.starts.byte_or.Statement.{statement}
+use Rattle.trace_kinds.proofs.starts.byte_or.Tie as tie
 
 shared-slice-read-result : tie.Need-shared-slice-read-result
 shared-slice-read-result c = search needs

@@ -3,10 +3,10 @@ use mathlib.Core.Path.{_≡_}
 use borrow.Author.Tests.{eq-eqb, ne-eqb}
 use mathlib.Core.Bool.{true, false}
 use lib.ListN.{getD}
-use Rattle.trace_records.specs.Record.{someLength}
+use Rattle.trace_kinds.specs.Kind.{someLength}
 use borrow.Author.Needs.{needs}
-use Rattle.trace_records.proofs.fields.start_holds.Statement.{statement}
-use Rattle.trace_records.proofs.fields.start_holds.Tie as tie
+use Rattle.trace_kinds.proofs.starts.start_holds.Statement.{statement}
+use Rattle.trace_kinds.proofs.starts.start_holds.Tie as tie
 
 byte-or-requires : tie.Need-byte-or-requires
 byte-or-requires c κs = search needs

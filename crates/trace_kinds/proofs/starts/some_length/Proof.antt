@@ -2,9 +2,9 @@
 use mathlib.Core.Bool.{false}
 use mathlib.Core.Path.{_≡_}
 use borrow.Author.Tests.{ne-eqb}
-use Rattle.trace_records.specs.Record.{someLength}
-use Rattle.trace_records.proofs.fields.some_length.Statement.{statement}
-use Rattle.trace_records.proofs.fields.some_length.Tie as tie
+use Rattle.trace_kinds.specs.Kind.{someLength}
+use Rattle.trace_kinds.proofs.starts.some_length.Statement.{statement}
+use Rattle.trace_kinds.proofs.starts.some_length.Tie as tie
 
 none-of : (c : tie.At-match-rest) → false ≡ someLength (c .before .args .length)
 none-of c =

@@ -1,8 +1,8 @@
 -- Kind by kind.
-use Rattle.trace_records.specs.Record.{lengthOf}
+use Rattle.trace_kinds.specs.Kind.{lengthOf}
 use borrow.Author.Needs.{needs}
-use Rattle.trace_records.proofs.kinds.Kind.length.Statement.{statement}
-use Rattle.trace_records.proofs.kinds.Kind.length.Tie as tie
+use Rattle.trace_kinds.proofs.kinds.Kind.length.Statement.{statement}
+use Rattle.trace_kinds.proofs.kinds.Kind.length.Tie as tie
 
 enum-told : tie.Need-enum-told
 enum-told c = search needs

@@ -1,5 +1,5 @@
 ghost use mathlib.Core.Path.{_≡_};
-ghost use Rattle.trace_records.specs.Record.{kindOf, lengthOf};
+ghost use Rattle.trace_kinds.specs.Kind.{kindOf, lengthOf};
 
 // The kinds of records, in the order of their numbers.
 pub enum Kind {
@@ -18,7 +18,7 @@ pub enum Kind {
 }
 
 impl Kind {
-    pub(crate) fn of(number: u8) -> Kind
+    pub fn of(number: u8) -> Kind
         ensures { λ r. ⌜ r ≡ kindOf number ⌝ }
     {
         match number {
@@ -39,7 +39,7 @@ impl Kind {
 
     // The length of a record of this kind, without the two bytes that hold it: three bytes, and eight for each argument. An unknown kind
     // has none.
-    pub(crate) fn length(self) -> usize
+    pub fn length(self) -> usize
         ensures { λ r. ⌜ r ≡ lengthOf self ⌝ }
     {
         match self {

@@ -1,8 +1,8 @@
 -- A number is compared with those before it; one of the range is none of the ten.
 use borrow.Author.Tests.{ne-eqb}
-use Rattle.trace_records.specs.Record.{kindOf}
-use Rattle.trace_records.proofs.kinds.Kind.of.Statement.{statement}
-use Rattle.trace_records.proofs.kinds.Kind.of.Tie as tie
+use Rattle.trace_kinds.specs.Kind.{kindOf}
+use Rattle.trace_kinds.proofs.kinds.Kind.of.Statement.{statement}
+use Rattle.trace_kinds.proofs.kinds.Kind.of.Tie as tie
 
 returns : tie.Need-returns
 unfolding kindOf

@@ -1,0 +1,7 @@
+// The kinds of trace records with their lengths, and whether fewer than four bytes are the beginning of a record.
+// It rests on no other crate. It knows no call, and takes no argument out of a record.
+mod kinds;
+mod starts;
+
+pub use kinds::Kind;
+pub use starts::start_holds;
