@@ -1,6 +1,6 @@
 -- The tests of a single step that come before any granule: they stay passed while granules change, so that a call makes them once.
 use mathlib.Core.Path.{_≡_, refl, ap, fun-ext, _∙_}
-use mathlib.Core.Bool.{Bool, true, false, cond, _&&_}
+use mathlib.Core.Bool.{Bool, true, false, cond}
 use mathlib.Core.List.{List, [], _∷_, _++_}
 use mathlib.Core.Option.{Option, none, some}
 use Prim.Native.Nat.{ℕ, _+_, _-_, _%_, _<_}
@@ -16,12 +16,11 @@ use Rattle.tables.specs.Length.{widthOf, lengthsHold}
 use Rattle.tables.specs.Row.{wordIndex}
 use Rattle.pairs.specs.Pair.{pairAt}
 use Rattle.records.specs.Monitor.{guestOf}
-use Rattle.records.specs.Answer.{verdictWith}
 use Rattle.records.specs.State.{State}
 use Rattle.records.specs.Tests.{Tests, firstRefusal}
 use Rattle.records.specs.declared.answer.Numbers.{Numbers}
-use Rattle.records.proofs.TestLaws.{through}
-use Rattle.claims.specs.SingleSteps.{RangeCall, share, unshare, rangeGuardMap, rangeGuardUnmap, errorOf, registersRight, enrolmentRight, callTests, granuleTests, frameIn, wordMade, withSharedByte, framesMade, changedAt, At, at, singleStep}
+use Rattle.records.proofs.TestLaws.{all-pass}
+use Rattle.claims.specs.SingleSteps.{RangeCall, share, unshare, rangeGuardMap, rangeGuardUnmap, registersRight, callTests, granuleTests, frameIn, wordMade, withSharedByte, framesMade, changedAt, At, at, singleStep}
 use Rattle.claims.proofs.StepAgrees.{granuleRefusal, granuleStep}
 
 -- the refusal before any granule
@@ -59,16 +58,8 @@ pub record Passed (v b : ℕ) (s : State) : Type 0 where
 
 pub call-passed : (c : RangeCall) (v r3 b : ℕ) (s : State) → callRefusal c v r3 (at b s) ≡ none → Passed v b s
 call-passed c v r3 b s h =
-    let guest = guestOf (s .monitor) v in
-    let q₅ = cond (enrolmentRight c guest) none (some (errorOf c)) in
-    let q₄ = cond (registersRight c b r3) q₅ (some (errorOf c)) in
-    let q₃ = cond (guest .run) q₄ (some (verdictWith 3 0)) in
-    let q₂ = cond (ltb v 8 && guest .live) q₃ (some (verdictWith 2 0)) in
-    let h₁ = through (lengthsHold (length (s .frames)) (length (s .map))) q₂ (verdictWith 1 0) h in
-    let h₂ = through (ltb v 8 && guest .live) q₃ (verdictWith 2 0) (h₁ .1) in
-    let h₃ = through (guest .run) q₄ (verdictWith 3 0) (h₂ .1) in
-    let h₄ = through (registersRight c b r3) q₅ (errorOf c) (h₃ .1) in
-    record { lengths = h₁ .0; slot = ltb-true v 8 (both-true (ltb v 8) (guest .live) (h₂ .0) .0); base = base-right c b r3 (h₄ .0) }
+    let p = all-pass (callTests c v r3 b s) h in
+    record { lengths = p .0; slot = ltb-true v 8 (both-true (ltb v 8) (guestOf (s .monitor) v .live) (p .1 .0) .0); base = base-right c b r3 (p .1 .1 .1 .0) }
 
 -- a step changes nothing that the tests before any granule look at
 frames-length : (c : RangeCall) (f : ℕ) (frames : List ℕ) → length (framesMade c f frames) ≡ length frames

@@ -1,9 +1,8 @@
 -- Each single step that is taken changes one map word, at a place that no step before it changed, so the steps done are the words that differ.
 use mathlib.Core.Path.{_≡_, refl, sym, ap, _∙_}
 use mathlib.Core.Logic.{_≢_}
-use mathlib.Core.Bool.{true, false, cond}
+use mathlib.Core.Bool.{true, false}
 use mathlib.Core.List.{List}
-use mathlib.Core.Option.{none, some}
 use Prim.Native.Nat.{ℕ, suc, _+_, _<_, _≤_}
 use native.Mathlib.Nat.{zero-add}
 use native.Mathlib.Omega.{arith}
@@ -19,16 +18,15 @@ use Rattle.words.specs.declared.map_word.MapWord.the-variants as map-word
 use Rattle.words.proofs.MapWordLaws.{map-encode-decode}
 use Rattle.tables.specs.Length.{widthOf}
 use Rattle.tables.specs.Row.{wordIndex, wordAt}
-use Rattle.pairs.specs.Pair.{granuleState, pairAt, granuleUndamaged}
+use Rattle.pairs.specs.Pair.{granuleState, pairAt}
 use Rattle.pairs.specs.declared.pairs.GranuleState.{GranuleState}
 use Rattle.pairs.specs.declared.pairs.GranuleState.the-variants as granule-state
 use Rattle.tables.proofs.RowLaws.{row-inside}
 use Rattle.pairs.proofs.Found.{mapWordBy, granule-says}
-use Rattle.records.specs.Answer.{verdictWith}
 use Rattle.records.specs.State.{State}
 use Rattle.records.specs.declared.answer.Numbers.{Numbers}
-use Rattle.records.proofs.TestLaws.{through}
-use Rattle.claims.specs.SingleSteps.{RangeCall, share, unshare, rangeGuardMap, rangeGuardUnmap, errorOf, kindRight, frameIn, wordMade, changedAt, At, at, singleStep}
+use Rattle.records.proofs.TestLaws.{all-pass}
+use Rattle.claims.specs.SingleSteps.{RangeCall, share, unshare, rangeGuardMap, rangeGuardUnmap, kindRight, granuleTests, frameIn, wordMade, changedAt, At, at, singleStep}
 use Rattle.claims.proofs.Differing.{differing-none, differing-set}
 use Rattle.claims.specs.Pieces.{differing, CountsChanges}
 use Rattle.claims.proofs.StepAgrees.{granuleRefusal, granuleStep, pair-inside}
@@ -82,18 +80,14 @@ single-took c v r3 b s t e =
     let h = gated-passed (callRefusal c v r3 (at b s)) (granuleStep c v (at b s)) t (sym (step-gated c v r3 (at b s)) ∙ e) in
     let u = gated-passed (granuleRefusal c v (at b s)) (took (at (b + granuleSize) (changedAt c v b s))) t (h .1) in
     let to = u .1 in
-    let q₃ = cond (kindRight c k) none (some (errorOf c)) in
-    let q₂ = cond (granuleUndamaged k) q₃ (some (verdictWith 6 0)) in
-    let h₁ = through (ltb g (widthOf (length (s .map)))) q₂ (errorOf c) (u .0) in
-    let h₂ = through (granuleUndamaged k) q₃ (verdictWith 6 0) (h₁ .1) in
-    let h₃ = through (kindRight c k) none (errorOf c) (h₂ .1) in
+    let p = all-pass (granuleTests c (ltb g (widthOf (length (s .map)))) k) (u .0) in
     let passes = call-passed c v r3 b s (h .0) in
     record {
       passed = passes;
-      below = ltb-true g (widthOf (length (s .map))) (h₁ .0);
+      below = ltb-true g (widthOf (length (s .map))) (p .0);
       word =
-          other-word c k (h₃ .0) (wordAt (s .map) v g)
-          (state-word (s .frames) v g (wordAt (s .map) v g) k (pair-inside (s .frames) (s .map) v g (passes .slot) (h₁ .0)) (undamaged-kind c k (h₃ .0)));
+          other-word c k (p .1 .1 .0) (wordAt (s .map) v g)
+          (state-word (s .frames) v g (wordAt (s .map) v g) k (pair-inside (s .frames) (s .map) v g (passes .slot) (p .0)) (undamaged-kind c k (p .1 .1 .0)));
       to = cc;
     }
 

@@ -109,7 +109,7 @@ remove-counts-frames v s = removal-counts v s
 
 -- "Cases marked * are proved about the rules themselves, together, as one table under one statement"
 pub case-table : map found cases ≡ map expected cases
-unfolding step hypercallOf abortOf actOf guestAccessOf functionOf callRowOf actionOf stepFrom changeOf granuleState pairAt mapWordOf frameWordOf mapBits frameBits numbersOf guestOf withGuest framesHold mapHolds
+unfolding step donateOf hypercallOf abortOf actOf guestAccessOf functionOf callRowOf actionOf stepFrom changeOf granuleState pairAt frameState pairOf mapWordOf frameWordOf mapBits frameBits numbersOf guestOf withGuest framesHold mapHolds
 case-table = refl
 
 -- and cases of the host's calls: each verdict that one can have, in sound and in damaged tables

@@ -1,7 +1,7 @@
 -- Document 01, "Bench sheet": the cases marked *, with all five numbers of each answer.
 use mathlib.Core.Bool.{true, false}
 use mathlib.Core.List.{List, [], _∷_}
-use Prim.Native.Nat.{ℕ, _+_, _-_, _^_}
+use Prim.Native.Nat.{ℕ, _-_, _^_}
 use lib.ListN.{replicate, set}
 use Rattle.records.specs.Monitor.{fresh, withGuest}
 use Rattle.records.specs.Answer.{numbers, verdictWith}
@@ -10,15 +10,16 @@ use Rattle.records.specs.declared.guest.Guest.{Guest}
 use Rattle.records.specs.declared.answer.Numbers.{Numbers}
 use Rattle.functions.specs.Table.{registers}
 use Rattle.calls.specs.declared.call.Call.{Call}
-use Rattle.calls.specs.declared.call.Call.the-variants.{Hypercall, Abort}
+use Rattle.calls.specs.declared.call.Call.the-variants.{Donate, Hypercall, Abort}
 use Rattle.claims.specs.Case.{Case, case}
 
--- "Slot 0, F = 256, W = 64, run", granule g private (the frame is 3), the others vacant
+-- a guest that was run
 abbrev pub caller : Guest
 caller = record { live = true; run = true; enrolled = false; std = 0; «std_hyp» = 0; «vendor_hyp» = 1 }
 
-abbrev pub bench : ℕ → State
-bench g = state (set (replicate 256 0) 3 (0x01000000 + g)) (set (replicate 512 0) g 0x40000003) (withGuest fresh 0 caller)
+-- "Slot 0, F = 256, W = 64, run, granule 5 private, 6 vacant": the frame is 3, and all other granules are vacant too
+abbrev pub bench : State
+bench = state (set (replicate 256 0) 3 0x01000005) (set (replicate 512 0) 5 0x40000003) (withGuest fresh 0 caller)
 
 -- the answers of the sheet: 0 with R1 granules done, −3, −1
 abbrev pub done : ℕ → Numbers
@@ -40,17 +41,18 @@ enroll = hypercall0 0xC6000006 0 0 0
 -- in the sheet's order
 abbrev pub cases : List Case
 cases =
-    case (bench 5) [] (share 0x5000 2) (done 1)
-    ∷ case (bench 5) (share 0x5000 2 ∷ []) (share 0x6000 1) (minus 3)
-    ∷ case (bench 5) [] (share 0x5000 0) (done 1)
-    ∷ case (bench 5) [] (share 0x5001 0) (minus 3)
-    ∷ case (bench 5) [] (hypercall0 0xC6000003 0x5000 0 1) (minus 3)
-    ∷ case (bench 5) [] (share 0xFFFFFFFFFFFFF000 2) (minus 3)
-    ∷ case (bench 63) [] (share 0x3F000 2) (done 1)
-    ∷ case (bench 5) [] (hypercall0 0x1C6000003 0x5000 0 0) (done 1)
-    ∷ case (bench 5) [] (hypercall0 0xC600000C 0 0 0) (minus 1)
-    ∷ case (bench 5) (enroll ∷ []) (hypercall0 0xC600000A 0x7000 0 0) (minus 1)
-    ∷ case (bench 5) (enroll ∷ []) (hypercall0 0xC6000007 0x5000 0 0) (minus 1)
-    ∷ case (bench 5) [] (Abort 0 0x6000) (verdictWith 11 0x6000)
-    ∷ case (bench 5) (enroll ∷ []) (Abort 0 0x6000) (verdictWith 12 0)
+    case bench [] (share 0x5000 2) (done 1)
+    ∷ case bench (share 0x5000 2 ∷ []) (share 0x6000 1) (minus 3)
+    ∷ case bench [] (share 0x5000 0) (done 1)
+    ∷ case bench [] (share 0x5001 0) (minus 3)
+    ∷ case bench [] (hypercall0 0xC6000003 0x5000 0 1) (minus 3)
+    ∷ case bench [] (share 0xFFFFFFFFFFFFF000 2) (minus 3)
+    -- "Granule 63 private": frame 4 is donated there
+    ∷ case bench (Donate 0 4 63 ∷ []) (share 0x3F000 2) (done 1)
+    ∷ case bench [] (hypercall0 0x1C6000003 0x5000 0 0) (done 1)
+    ∷ case bench [] (hypercall0 0xC600000C 0 0 0) (minus 1)
+    ∷ case bench (enroll ∷ []) (hypercall0 0xC600000A 0x7000 0 0) (minus 1)
+    ∷ case bench (enroll ∷ []) (hypercall0 0xC6000007 0x5000 0 0) (minus 1)
+    ∷ case bench [] (Abort 0 0x6000) (verdictWith 11 0x6000)
+    ∷ case bench (enroll ∷ []) (Abort 0 0x6000) (verdictWith 12 0)
     ∷ []

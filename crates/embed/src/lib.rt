@@ -1,5 +1,6 @@
 // Every call for programs in C and Rust, on records, tables and answers that the caller lends as words.
-// It rests on the calls below it for every decision, and on record_words for records and answers as words. It keeps nothing between calls.
+// It rests on the calls' crates for every decision, on tables, records and functions, and on record_words for records and answers as words.
+// It keeps nothing between calls.
 mod frames;
 mod hypercalls;
 mod registers;

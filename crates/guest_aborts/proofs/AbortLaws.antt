@@ -26,16 +26,13 @@ use Rattle.guest_aborts.specs.Calls.{unbacked, accessAnswer, guestAccess
 -- a call of slot v whose record is g, by the admission that verdicts 1 to 3 gave it
 module _ (v : ℕ) (s : State) (g : Guest) (e : g ≡ guestOf (s .monitor) v) (x : Admission)
     (t : refusalBy x ≡ firstRefusal (callerTests (length (s .frames)) (length (s .map)) g)) where
-  tested : firstRefusal (callerTests (length (s .frames)) (length (s .map)) (guestOf (s .monitor) v)) ≡ refusalBy x
-  tested = caller-tested v s g e x t
-
   pub abort-refused : (ipa : ℕ) (a : Answer) → x ≡ admission.Refused a → answered s a ≡ abortOf v ipa s
   unfolding abortOf
-  abort-refused ipa a p = rw (tested, p)
+  abort-refused ipa a p = rw (caller-tested v s g e x t, p)
 
   pub abort-passed : (ipa : ℕ) (a : Answer) → x ≡ admission.Passed → a ≡ guestAccessOf (s .frames) (s .map) v ipa g → answered s a ≡ abortOf v ipa s
   unfolding abortOf
-  abort-passed ipa a p q = rw (tested, p, q, e)
+  abort-passed ipa a p q = rw (caller-tested v s g e x t, p, q, e)
 
 -- an access of slot v, whose row is `words`, in the granule g that holds the address
 module _ (frames map : List ℕ) (v : ℕ) (h : v < 8) (words : List ℕ) (e : words ≡ rowOf map v) (a g : ℕ) (eg : g ≡ granuleOf a) (guest : Guest) where

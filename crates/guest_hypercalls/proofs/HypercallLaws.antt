@@ -37,12 +37,9 @@ as-found v s e h = rw (e, put-own (s .monitor) v) h
 -- a call of slot v whose record is g, by the admission that verdicts 1 to 3 gave it
 module _ (v : ℕ) (s : State) (g : Guest) (e : g ≡ guestOf (s .monitor) v) (x : Admission)
     (t : refusalBy x ≡ firstRefusal (callerTests (length (s .frames)) (length (s .map)) g)) where
-  tested : firstRefusal (callerTests (length (s .frames)) (length (s .map)) (guestOf (s .monitor) v)) ≡ refusalBy x
-  tested = caller-tested v s g e x t
-
   pub call-refused : (r : Registers) (a : Answer) → x ≡ admission.Refused a → answered s a ≡ hypercallOf v r s
   unfolding hypercallOf
-  call-refused r a p = rw (tested, p)
+  call-refused r a p = rw (caller-tested v s g e x t, p)
 
   -- and by the admission that the row of its function gave it
   module _ (p : x ≡ admission.Passed) (r : Registers) (f : Function) (ef : f ≡ askedBy (r .r0)) (w : CallRow) (ew : w ≡ callRowOf f) (y : Admission)
@@ -52,11 +49,11 @@ module _ (v : ℕ) (s : State) (g : Guest) (e : g ≡ guestOf (s .monitor) v) (x
 
     pub row-refused : (a : Answer) → y ≡ admission.Refused a → answered s a ≡ hypercallOf v r s
     unfolding hypercallOf
-    row-refused a q = rw (tested, p, row-tested, q)
+    row-refused a q = rw (caller-tested v s g e x t, p, row-tested, q)
 
     pub row-passed : y ≡ admission.Passed → (z : Action) → z ≡ actionOf f (r .r2) → (done : Answered) → done ≡ actOf v (r .r1) (w .error) z s → done ≡ hypercallOf v r s
     unfolding hypercallOf
-    row-passed q z ez done ed = ed ∙ rw (tested, p, row-tested, q, ← ef, ← ew, ez)
+    row-passed q z ez done ed = ed ∙ rw (caller-tested v s g e x t, p, row-tested, q, ← ef, ← ew, ez)
 
 -- what is told of granules that were done
 pub some-done : (e : Error) (tells : Bool) (k : ℕ) (r : Stop Refusal) → 0 < k → returned (pos 0) (cond tells k 0) ≡ doneAnswer e tells k r

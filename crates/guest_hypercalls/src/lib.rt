@@ -1,6 +1,6 @@
 // The guest's hypercall: its tests in document 01's order, and what the call does once they have passed.
 // It rests on guest_callers for the tests of the caller, on functions and actions for the table of guest calls, on ranges for the work
-// on granules, and on words, tables, records and granules. It lends the caller's row on, and knows no host call.
+// on granules, and on words, tables, records, granules and runs. It lends the caller's row on, and knows no host call.
 mod admissions;
 mod hypercalls;
 mod work;

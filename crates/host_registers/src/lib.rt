@@ -1,5 +1,5 @@
 // The firmware registers of a guest, read and written by the host.
-// It rests on words and records. It takes no table, and does not look at what a bitmap means: that is up to the table of guest calls.
+// It rests on records. It takes no table, and does not look at what a bitmap means: that is up to the table of guest calls.
 mod access;
 mod registers;
 

@@ -1,4 +1,4 @@
--- What holds where a pair test finds something: the word that it looked from says so, and a partner that it names says it back.
+-- What holds where a pair test finds something: a granule's map word says so, and a partner that a word names says it back.
 use mathlib.Core.Path.{_≡_, refl, _∙_}
 use mathlib.Core.Bool.{Bool, true, false, cond}
 use mathlib.Core.List.{List}

@@ -1,4 +1,5 @@
-// Replays a trace from standard input to standard output. It rests on replay_stream for all of it.
+// Replays a trace from standard input to standard output. It rests on replay_stream for all of it, and on libc for
+// the two descriptors.
 fn main() {
     replay_stream::replay(libc::STDIN_FILENO, libc::STDOUT_FILENO);
 }

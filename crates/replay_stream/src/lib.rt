@@ -1,6 +1,6 @@
 // A replay from one file descriptor to another, for programs.
-// It rests on trace for everything that is decided, and on io and libc for reading and writing, of which no contract can speak. It holds one
-// piece of the log at a time, behind the bytes of at most one unfinished record.
+// It rests on trace and trace_lines for everything that is decided, and on io and libc for reading and writing, of which no contract can
+// speak. It holds one piece of the log at a time, behind the bytes of at most one unfinished record.
 mod pieces;
 
 use libc::STDERR_FILENO;

@@ -1,4 +1,4 @@
--- Laws of tests: what one that passed says of its parts, and what a constant part does.
+-- Laws of tests: none both passes and fails, what one that passed says of its parts, and what a constant part does.
 use mathlib.Core.Path.{_≡_, refl}
 use mathlib.Core.Bool.{Bool, true, false, _&&_, Bool·beq}
 use Prim.Native.Nat.{ℕ}

@@ -1,5 +1,5 @@
 // The numbers that stand in the two tables and in registers: granules and addresses, map words, frame words, signed results.
-// Nothing above this crate knows a bit's place. It rests on no other crate, and it looks at no table.
+// Only this crate takes words apart by shifts and masks. It rests on no other crate, and it looks at no table.
 mod fields;
 mod frame_word;
 mod granule;
