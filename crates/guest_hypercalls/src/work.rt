@@ -47,9 +47,19 @@ pub(crate) fn answer_of(progress: Progress, tells: bool, error: Error) -> Answer
     let outcome = progress.outcome;
     if 0 < done {
         if tells {
-            return Answer::returned(0, done);
+            return Answer::Return {
+                r0: 0,
+                r1: done,
+                r2: 0,
+                r3: 0,
+            };
         }
-        return Answer::returned(0, 0);
+        return Answer::Return {
+            r0: 0,
+            r1: 0,
+            r2: 0,
+            r3: 0,
+        };
     }
     match outcome {
         Outcome::Done => error.answer(),

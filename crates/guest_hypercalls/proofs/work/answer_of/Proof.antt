@@ -2,22 +2,16 @@
 use Rattle.guest_hypercalls.proofs.HypercallLaws.{some-done}
 use native.Mathlib.Omega.{arith}
 use Prim.Native.Nat.{ℕ}
-use mathlib.Core.Path.{_≡_, _∙_}
+use mathlib.Core.Path.{_≡_}
 use borrow.Author.Needs.{needs}
 use Rattle.guest_hypercalls.proofs.work.answer_of.Statement.{statement}
 use Rattle.guest_hypercalls.proofs.work.answer_of.Tie as tie
 
-returned-requires : tie.Need-returned-requires
-returned-requires c κs = search needs
-
 returns : tie.Need-returns
-returns c = rw (c .before .if2 .taken) (c .returned .ensures ∙ some-done _ _ _ _ (c .before .before .if1 .taken))
-
-returned-requires-2 : tie.Need-returned-requires-2
-returned-requires-2 c κs = search needs
+returns c = rw (c .if2 .taken) (some-done _ _ _ _ (c .before .if1 .taken))
 
 returns-2 : tie.Need-returns-2
-returns-2 c = rw (c .before .if2 .left) (c .returned2 .ensures ∙ some-done _ _ _ _ (c .before .before .if1 .taken))
+returns-2 c = rw (c .if2 .left) (some-done _ _ _ _ (c .before .if1 .taken))
 
 enum-told : tie.Need-enum-told
 enum-told c = search needs
@@ -47,9 +41,7 @@ pub answer-of-spec : {M : Type 1} → statement M
 answer-of-spec =
     tie.close
     (tie.spec
-    returned-requires
     returns
-    returned-requires-2
     returns-2
     enum-told
     answer-requires
