@@ -1,17 +1,21 @@
 -- How a hypercall comes out, by the tests that its code makes on the way.
 use mathlib.Core.Path.{_≡_, refl, sym, _∙_}
-use mathlib.Core.Bool.{Bool, cond}
-use Prim.Native.Nat.{ℕ, zero, suc, _<_}
+use mathlib.Core.Bool.{Bool, true, false, cond}
+use Prim.Native.Nat.{ℕ, zero, suc, _<_, _≤_}
 use native.Mathlib.Omega.{arith}
+use borrow.Author.Tests.{le-ltb}
 use lib.IntN.{pos}
 use lib.ListN.{length}
 use Rattle.runs.specs.Run.{Stop}
-use Rattle.records.specs.Monitor.{guestOf, withGuest}
+use Rattle.tables.specs.Length.{lengthsHold}
+use Rattle.records.specs.Monitor.{zeroGuest, guestOf, withGuest}
 use Rattle.records.specs.Answer.{returned}
 use Rattle.records.specs.State.{State, state, Answered, answered}
 use Rattle.records.specs.Tests.{firstRefusal, refusalBy, unlessRefused}
 use Rattle.records.specs.declared.guest.Guest.{Guest}
+use Rattle.records.specs.declared.monitor.Monitor.{Monitor}
 use Rattle.records.specs.declared.answer.Answer.{Answer}
+use Rattle.records.specs.declared.answer.Answer.the-variants.{BadLength, NoGuest}
 use Rattle.records.specs.declared.admission.Admission.{Admission}
 use Rattle.records.specs.declared.admission.Admission.the-variants as admission
 use Rattle.records.proofs.MonitorLaws.{put-own}
@@ -28,6 +32,28 @@ use Rattle.functions.specs.declared.rows.Error.{Error}
 use Rattle.functions.specs.declared.rows.CallRow.{CallRow}
 use Rattle.actions.specs.declared.actions.Action.{Action}
 use Rattle.guest_hypercalls.specs.Calls.{rowTests, doneAnswer, actOf, hypercallOf}
+
+-- there is no slot above 7: it has the record of no guest, and none is put in
+beyond-has : (m : Monitor) (v : ℕ) → 8 ≤ v → zeroGuest ≡ guestOf m v
+unfolding guestOf
+beyond-has m v h = rw (le-ltb v 8 h)
+
+beyond-put : (m : Monitor) (v : ℕ) (g : Guest) → 8 ≤ v → withGuest m v g ≡ m
+unfolding withGuest
+beyond-put m v g h = rw (le-ltb v 8 h)
+
+-- so a call of it is refused, with verdict 1 or 2
+none-there : (v : ℕ) (s : State) (r : Registers) (b : Bool) → lengthsHold (length (s .frames)) (length (s .map)) ≡ b → 8 ≤ v
+    → answered s (cond b NoGuest BadLength) ≡ hypercallOf v r s
+unfolding hypercallOf
+none-there v s r true e h = rw (e, ← beyond-has (s .monitor) v h)
+none-there v s r false e h = rw e
+
+pub beyond-refused : (v : ℕ) (s : State) (r : Registers) (g : Guest) → 8 ≤ v → (a : Answer)
+    → a ≡ cond (lengthsHold (length (s .frames)) (length (s .map))) NoGuest BadLength
+    → answered (state (s .frames) (s .map) (withGuest (s .monitor) v g)) a ≡ hypercallOf v r s
+beyond-refused v s r g h a e =
+    rw (beyond-put (s .monitor) v g h, e) (none-there v s r (lengthsHold (length (s .frames)) (length (s .map))) refl h)
 
 -- a refused call leaves the record that it was called with
 pub as-found : (v : ℕ) (s : State) {g : Guest} → g ≡ guestOf (s .monitor) v → {a : Answer} {done : Answered} → answered s a ≡ done

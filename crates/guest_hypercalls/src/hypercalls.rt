@@ -1,9 +1,11 @@
 ghost use mathlib.Core.Path.{_≡_};
-ghost use mathlib.Core.Bool.{false};
+ghost use mathlib.Core.Bool.{false, cond};
 ghost use Prim.Native.Nat.{_<_};
+ghost use Rattle.tables.specs.Length.{lengthsHold};
 ghost use Rattle.records.specs.Monitor.{guestOf, withGuest};
 ghost use Rattle.records.specs.State.{state, answered};
 ghost use Rattle.records.specs.declared.monitor.Monitor.{Monitor};
+ghost use Rattle.records.specs.declared.answer.Answer.the-variants.{BadLength, NoGuest};
 ghost use Rattle.guest_hypercalls.specs.Calls.{actOf, hypercallOf};
 use crate::admissions::row_admission;
 use crate::work::answer_of;
@@ -18,6 +20,7 @@ use records::Answer;
 use records::Guest;
 use records::Monitor;
 use records::Reply;
+use tables::lengths_hold;
 
 // What a call of a guest comes to: the guest's record, whether that changed, and the answer.
 pub struct Served {
@@ -49,7 +52,8 @@ pub fn hypercall(
 }
 
 // The same call for a caller that holds the record of the slot's guest alone: of any records with this one it is the hypercall, and no
-// other record changes.
+// other record changes. A slot above 7 has no guest, whatever record is handed in. It answers for any record, tables, slot number and
+// registers.
 pub fn serve(
     guest: Guest,
     frames: &mut [u32],
@@ -57,11 +61,18 @@ pub fn serve(
     slot: u64,
     registers: Registers,
 ) -> Served
-    ensures { λ r. ⌜ ((monitor : Monitor) → guest ≡ guestOf monitor slot
+    ensures { λ r. ⌜ ((monitor : Monitor) → (slot < 8 → guest ≡ guestOf monitor slot)
         → answered (state (now (frames .exit)) (now (map .exit)) (withGuest monitor slot (r .guest))) (r .answer)
         ≡ hypercallOf slot registers (state (now (frames .entry)) (now (map .entry)) monitor)) ⌝ }
     ensures { λ r. ⌜ (r .changed ≡ false → r .guest ≡ guest) ⌝ }
 {
+    if 8 <= slot {
+        return Served {
+            guest,
+            changed: false,
+            answer: no_slot(frames.len(), map.len()),
+        };
+    }
     match caller_admission(frames.len(), map.len(), guest) {
         Admission::Refused(answer) => Served {
             guest,
@@ -89,6 +100,17 @@ pub fn serve(
                 ),
             }
         }
+    }
+}
+
+// The answer to a slot above 7, which has no guest: the tables' lengths are tested first.
+fn no_slot(frame_words: usize, map_words: usize) -> Answer
+    ensures { λ r. ⌜ r ≡ cond (lengthsHold «frame_words» «map_words») NoGuest BadLength ⌝ }
+{
+    if lengths_hold(frame_words, map_words) {
+        Answer::NoGuest
+    } else {
+        Answer::BadLength
     }
 }
 

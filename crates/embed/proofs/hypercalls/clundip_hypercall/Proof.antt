@@ -33,7 +33,7 @@ returns c =
     let entry = read .before .before .before .before .args in
     let r = registers (entry .r0) (entry .r1) (entry .r2) (entry .r3) in
     let records = monitorIn (entry .records .now) in
-    lent-done (hypercallOf (entry .slot) r) (entry .records .now) (entry .frames .now) (entry .map .now) records refl _ _ _ _ (made .serve .ensures .0 records (read .guest-in .ensures)) _ (c .put-answer .ensures) _ (c .before .before .put-record .ensures)
+    lent-done (hypercallOf (entry .slot) r) (entry .records .now) (entry .frames .now) (entry .map .now) records refl _ _ _ _ (made .serve .ensures .0 records (λ h. read .guest-in .ensures)) _ (c .put-answer .ensures) _ (c .before .before .put-record .ensures)
 
 pub clundip-hypercall-spec : {M : Type 1} → statement M
 clundip-hypercall-spec =

@@ -23,7 +23,7 @@ returns : tie.Need-returns
 returns c =
     let served = c .before .before .before .before .before .before in
     let own = served .before .before .before in
-    rw (c .with-guest .ensures) (served .serve .ensures .0 (own .before .before .before .args .monitor) (own .guest .ensures))
+    rw (c .with-guest .ensures) (served .serve .ensures .0 (own .before .before .before .args .monitor) (λ h. own .guest .ensures))
 
 same-length-3 : tie.Need-same-length-3
 same-length-3 c = search needs
@@ -36,7 +36,7 @@ returns-2 c =
     let served = c .before .before .before .before .before in
     let own = served .before .before .before in
     let start = own .before .before .before .args in
-    rw (served .serve .ensures .1 (c .if1 .left), own .guest .ensures, put-own (start .monitor) (start .slot)) at (served .serve .ensures .0 (start .monitor) (own .guest .ensures))
+    rw (served .serve .ensures .1 (c .if1 .left), own .guest .ensures, put-own (start .monitor) (start .slot)) at (served .serve .ensures .0 (start .monitor) (λ h. own .guest .ensures))
 
 pub hypercall-spec : {M : Type 1} → statement M
 hypercall-spec =
