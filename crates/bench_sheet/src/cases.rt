@@ -1,10 +1,10 @@
 use crate::lines::report;
 use crate::uid::words;
+use answers::Numbers;
 use calls::Call;
+use commands::Reply;
 use functions::Registers;
 use records::Monitor;
-use records::Numbers;
-use records::Reply;
 
 // W = 128 and F = 256, granules 0 to 64 private: 65 granules shared, then the one that is left.
 pub(crate) fn share_of_65() {

@@ -1,7 +1,7 @@
 ghost use mathlib.Core.Path.{_≡_};
 ghost use mathlib.Core.Bool.{true};
+use answers::Numbers;
 use libc::STDOUT_FILENO;
-use records::Numbers;
 
 // Writes the line of a case: whether the numbers found are the expected ones, what was done, and the numbers found.
 pub(crate) fn report(what: &[u8], found: Numbers, expected: Numbers) {

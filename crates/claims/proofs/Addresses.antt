@@ -15,7 +15,7 @@ use Rattle.runs.proofs.Pieces.{told}
 use Rattle.words.proofs.Booleans.{both-true}
 use Rattle.tables.specs.Length.{framesHold, widthOf, mapHolds, lengthsHold}
 use Rattle.ranges.specs.Range.{rangeLimit}
-use Rattle.records.specs.declared.answer.Numbers.{Numbers}
+use Rattle.answers.specs.declared.answer.Numbers.{Numbers}
 use Rattle.claims.specs.SingleSteps.{RangeCall, numberOf, At, at, singleStep}
 use Rattle.claims.specs.Pieces.{callAt, AddressFits}
 use Rattle.claims.proofs.CallAgrees.{call-agrees}

@@ -16,10 +16,10 @@ use Rattle.tables.specs.Length.{widthOf, lengthsHold}
 use Rattle.tables.specs.Row.{wordIndex}
 use Rattle.pairs.specs.Pair.{pairAt}
 use Rattle.records.specs.Monitor.{guestOf}
-use Rattle.records.specs.State.{State}
-use Rattle.records.specs.Tests.{Tests, firstRefusal}
-use Rattle.records.specs.declared.answer.Numbers.{Numbers}
-use Rattle.records.proofs.TestLaws.{all-pass}
+use Rattle.commands.specs.State.{State}
+use Rattle.commands.specs.Tests.{Tests, firstRefusal}
+use Rattle.answers.specs.declared.answer.Numbers.{Numbers}
+use Rattle.commands.proofs.TestLaws.{all-pass}
 use Rattle.claims.specs.SingleSteps.{RangeCall, share, unshare, rangeGuardMap, rangeGuardUnmap, registersRight, callTests, granuleTests, frameIn, wordMade, withSharedByte, framesMade, changedAt, At, at, singleStep}
 use Rattle.claims.proofs.StepAgrees.{granuleRefusal, granuleStep}
 

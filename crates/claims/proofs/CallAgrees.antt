@@ -1,12 +1,11 @@
 -- A range call, by its answer, tells of at most 64 single steps.
 use mathlib.Core.Path.{_≡_, refl, sym, ap, _∙_}
-use mathlib.Core.Bool.{Bool, true, false, _&&_}
-use mathlib.Core.List.{List, [], _∷_}
+use mathlib.Core.Bool.{Bool, true, false}
+use mathlib.Core.List.{List, [], _∷_, _++_}
 use mathlib.Core.Option.{Option, none, some}
 use Prim.Native.Nat.{ℕ, suc, _+_, _*_, _-_, _%_, _≤_, _^_, min}
 use native.Mathlib.Omega.{arith}
 use borrow.Author.Tests.{lt-ltb, ne-eqb}
-use lib.Dec.{ltb}
 use lib.ListN.{length}
 use Rattle.runs.specs.Run.{Step, took, refuses, refused, End, ended, oneMore, onward, run}
 use Rattle.runs.proofs.Gate.{passed}
@@ -14,29 +13,31 @@ use Rattle.runs.proofs.Kept.{Holds, kept}
 use Rattle.runs.proofs.Alike.{mapEnd}
 use Rattle.runs.proofs.Pieces.{rangeCall, told}
 use Rattle.words.specs.Granule.{granuleSize, granuleOf, isBase, addressOf}
-use Rattle.words.proofs.Booleans.{and-true, and-false}
+use Rattle.words.proofs.Booleans.{and-true}
 use Rattle.words.proofs.GranuleLaws.{address-granule}
 use Rattle.tables.specs.Length.{lengthsHold}
-use Rattle.records.specs.Monitor.{guestOf}
-use Rattle.records.specs.Answer.{verdictWith, numbersOf}
-use Rattle.records.specs.State.{State, state, Answered, answered}
-use Rattle.records.specs.Tests.{Tests, firstRefusal, unlessRefused}
+use Rattle.records.specs.Monitor.{guestOf, liveIn}
+use Rattle.answers.specs.Answer.{verdictWith, numbersOf}
+use Rattle.commands.specs.State.{State, state, answered}
+use Rattle.commands.specs.Tests.{Tests, firstRefusal}
+use Rattle.commands.specs.Command.{Effect, unlessRefused, viewOf, effected}
 use Rattle.records.specs.declared.monitor.Monitor.{Monitor}
 use Rattle.records.specs.declared.guest.Guest.{Guest}
-use Rattle.records.specs.declared.answer.Answer.{Answer}
-use Rattle.records.specs.declared.answer.Answer.the-variants.{BadLength, NoGuest, NeverRun}
-use Rattle.records.specs.declared.answer.Numbers.{Numbers}
-use Rattle.records.proofs.MonitorLaws.{live-slot}
+use Rattle.answers.specs.declared.answer.Answer.{Answer}
+use Rattle.answers.specs.declared.answer.Answer.the-variants.{BadLength, NoGuest, NeverRun}
+use Rattle.answers.specs.declared.answer.Numbers.{Numbers}
 use Rattle.granules.specs.Step.{Place, place, Refusal, isDamaged, notDone, tableStep}
 use Rattle.ranges.specs.Range.{rangeLimit}
 use Rattle.functions.specs.Function.{functionOf, askedBy}
-use Rattle.functions.specs.Table.{registers, errorAnswer, callRowOf}
-use Rattle.actions.specs.Action.{actionOf}
+use Rattle.functions.specs.Rules.{registers, errorAnswer}
+use Rattle.call_table.specs.Table.{granulesOf, isTold, callRowOf}
 use Rattle.functions.specs.declared.numbers.Function.{Function}
 use Rattle.functions.specs.declared.numbers.Function.the-variants.{Share, Unshare, RangeGuardMap, RangeGuardUnmap}
-use Rattle.actions.specs.declared.actions.Action.the-variants as action
-use Rattle.functions.specs.declared.rows.Error.{Error}
-use Rattle.functions.specs.declared.rows.Error.the-variants.{NotSupported, InvalidParameter}
+use Rattle.call_table.specs.declared.rows.Action.the-variants as action
+use Rattle.call_table.specs.declared.rows.Count.{Count}
+use Rattle.call_table.specs.declared.rows.Count.the-variants.{Asked, AskedOrOne}
+use Rattle.functions.specs.declared.rules.Error.{Error}
+use Rattle.functions.specs.declared.rules.Error.the-variants.{NotSupported, InvalidParameter}
 use Rattle.guest_callers.specs.Callers.{callerTests}
 use Rattle.guest_hypercalls.specs.Calls.{rowTests, finished, actOf, hypercallOf}
 use Rattle.claims.specs.SingleSteps.{RangeCall, share, unshare, rangeGuardMap, rangeGuardUnmap, numberOf, errorOf, registersRight, enrolmentRight, At, at, singleStep}
@@ -76,18 +77,17 @@ error-read unshare b s = refl
 error-read rangeGuardMap b s = refl
 error-read rangeGuardUnmap b s = refl
 
-tests-read : (c : RangeCall) (x₁ x₂ x₃ x₄ x₅ : Bool) (b : ℕ) (s : State) (done : Answered)
+tests-read : (c : RangeCall) (x₁ x₂ x₃ x₄ x₅ : Bool) (b v : ℕ) (s : State) (d : Effect)
     → readCall b
-    (unlessRefused (firstRefusal ((x₁, BadLength) ∷ (x₂, NoGuest) ∷ (x₃, NeverRun) ∷ [])) s
-    (unlessRefused (firstRefusal ((x₄, errorAnswer (errorBy c)) ∷ (x₅, errorAnswer (errorBy c)) ∷ [])) s done))
-    ≡ unless (firstRefusal ((x₁, verdictWith 1 0) ∷ (x₂, verdictWith 2 0) ∷ (x₃, verdictWith 3 0) ∷ (x₄, errorOf c) ∷ (x₅, errorOf c) ∷ [])) (at b s) (readCall b done)
+    (effected v s (unlessRefused (firstRefusal ((x₁, BadLength) ∷ (x₂, NoGuest) ∷ (x₃, NeverRun) ∷ (x₄, errorAnswer (errorBy c)) ∷ (x₅, errorAnswer (errorBy c)) ∷ [])) d))
+    ≡ unless (firstRefusal ((x₁, verdictWith 1 0) ∷ (x₂, verdictWith 2 0) ∷ (x₃, verdictWith 3 0) ∷ (x₄, errorOf c) ∷ (x₅, errorOf c) ∷ [])) (at b s) (readCall b (effected v s d))
 unfolding numbersOf
-tests-read c false x₂ x₃ x₄ x₅ b s done = refl
-tests-read c true false x₃ x₄ x₅ b s done = refl
-tests-read c true true false x₄ x₅ b s done = refl
-tests-read c true true true false x₅ b s done = error-read c b s
-tests-read c true true true true false b s done = error-read c b s
-tests-read c true true true true true b s done = refl
+tests-read c false x₂ x₃ x₄ x₅ b v s d = refl
+tests-read c true false x₃ x₄ x₅ b v s d = refl
+tests-read c true true false x₄ x₅ b v s d = refl
+tests-read c true true true false x₅ b v s d = error-read c b s
+tests-read c true true true true false b v s d = error-read c b s
+tests-read c true true true true true b v s d = refl
 
 -- the row of the table, the action and the error of a range call with a count of at least 1
 row-tests : (c : RangeCall) (r0 b m r3 : ℕ) (g : Guest) → 1 ≤ m
@@ -106,19 +106,24 @@ row-error unshare = refl
 row-error rangeGuardMap = refl
 row-error rangeGuardUnmap = refl
 
-row-action : (c : RangeCall) (m : ℕ) → 1 ≤ m → actionOf (functionBy c) m ≡ action.Change (operationOf c) m true
-unfolding actionOf
-row-action share m h = rw (ne-eqb m 0 (omega arith))
-row-action unshare m h = rw (ne-eqb m 0 (omega arith))
-row-action rangeGuardMap m h = refl
-row-action rangeGuardUnmap m h = refl
+abbrev countBy : RangeCall → Count
+countBy share = AskedOrOne
+countBy unshare = AskedOrOne
+countBy rangeGuardMap = Asked
+countBy rangeGuardUnmap = Asked
 
-slot-live : (m : Monitor) (v : ℕ) → ltb v 8 && guestOf m v .live ≡ guestOf m v .live
-slot-live m v = on (guestOf m v .live) refl
-  where
-    on : (a : Bool) → guestOf m v .live ≡ a → ltb v 8 && a ≡ a
-    on true e = rw (lt-ltb v 8 (live-slot m v e))
-    on false e = and-false (ltb v 8)
+row-action : (c : RangeCall) → callRowOf (functionBy c) .action ≡ action.Change (operationOf c) (countBy c)
+unfolding callRowOf
+row-action share = refl
+row-action unshare = refl
+row-action rangeGuardMap = refl
+row-action rangeGuardUnmap = refl
+
+count-counts : (c : RangeCall) (m : ℕ) → 1 ≤ m → (granulesOf (countBy c) m ≡ m) × (isTold (countBy c) ≡ true)
+count-counts share m h = (rw (ne-eqb m 0 (omega arith)), refl)
+count-counts unshare m h = (rw (ne-eqb m 0 (omega arith)), refl)
+count-counts rangeGuardMap m h = (refl, refl)
+count-counts rangeGuardUnmap m h = (refl, refl)
 
 module _ (c : RangeCall) (r0 : ℕ) (number : r0 % 2 ^ 32 ≡ numberOf c) (v r3 : ℕ) where
   -- the granules that a call works on
@@ -126,18 +131,18 @@ module _ (c : RangeCall) (r0 : ℕ) (number : r0 % 2 ^ 32 ≡ numberOf c) (v r3 
   worked m (at b s) = run (tableStep (operationOf c) v) (min rangeLimit m) (place (s .map) (s .frames) (granuleOf b))
 
   call-reads : (m b : ℕ) (s : State) → 1 ≤ m
-      → callAt r0 v r3 m (at b s) ≡ unless (callRefusal c v r3 (at b s)) (at b s) (readCall b (finished (errorBy c) true (s .monitor) (worked m (at b s))))
+      → callAt r0 v r3 m (at b s) ≡ unless (callRefusal c v r3 (at b s)) (at b s) (readCall b (effected v s (finished (errorBy c) true (worked m (at b s)))))
   unfolding hypercallOf actOf
   call-reads m b s h =
       let guest = guestOf (s .monitor) v in
-      let first = firstRefusal (callerTests (length (s .frames)) (length (s .map)) guest) in
+      let first = callerTests (s .frames) (s .map) v guest in
       let r = registers r0 b m r3 in
       let asks : askedBy r0 ≡ functionBy c = ap functionOf number ∙ number-asked c in
-      let done = finished (errorBy c) true (s .monitor) (worked m (at b s)) in
-      ap (λ (f : Function). readCall b (unlessRefused first s (unlessRefused (firstRefusal (rowTests (callRowOf f) r guest)) s (actOf v b (callRowOf f .error) (actionOf f m) s)))) asks
-      ∙ ap (λ (ts : Tests Answer). readCall b (unlessRefused first s (unlessRefused (firstRefusal ts) s (actOf v b (callRowOf (functionBy c) .error) (actionOf (functionBy c) m) s)))) (row-tests c r0 b m r3 guest h)
-      ∙ rw (row-error c, row-action c m h, slot-live (s .monitor) v)
-      (tests-read c (lengthsHold (length (s .frames)) (length (s .map))) (guest .live) (guest .run) (registersRight c b r3) (enrolmentRight c guest) b s done)
+      let done = finished (errorBy c) true (worked m (at b s)) in
+      ap (λ (f : Function). readCall b (effected v s (unlessRefused (firstRefusal (first ++ rowTests (callRowOf f) r guest)) (actOf r (callRowOf f .error) (callRowOf f .action) (viewOf v s))))) asks
+      ∙ ap (λ (ts : Tests Answer). readCall b (effected v s (unlessRefused (firstRefusal (first ++ ts)) (actOf r (callRowOf (functionBy c) .error) (callRowOf (functionBy c) .action) (viewOf v s))))) (row-tests c r0 b m r3 guest h)
+      ∙ rw (row-error c, row-action c, count-counts c m h .0, count-counts c m h .1)
+      (tests-read c (lengthsHold (length (s .frames)) (length (s .map))) (liveIn v guest) (guest .run) (registersRight c b r3) (enrolmentRight c guest) b v s done)
 
   -- a range works upward: after k granules it stands k further
   Upward : ℕ → ℕ → Place → Type 0
@@ -154,7 +159,7 @@ module _ (c : RangeCall) (r0 : ℕ) (number : r0 % 2 ^ 32 ≡ numberOf c) (v r3 
   -- what a call answers reads as what the run of its granules tells
   module _ (b : ℕ) (m : Monitor) (map frames : List ℕ) (g : ℕ) (eb : addressOf g ≡ b) where
     abbrev answers : End Place Refusal → End At Numbers
-    answers e = readCall b (finished (errorBy c) true m e)
+    answers e = readCall b (effected v (state frames map m) (finished (errorBy c) true e))
 
     abbrev tells : End Place Refusal → End At Numbers
     tells e = told (mapEnd (located m) (numbersBy c) e)
@@ -191,7 +196,7 @@ module _ (c : RangeCall) (r0 : ℕ) (number : r0 % 2 ^ 32 ≡ numberOf c) (v r3 
       some-steps = omega arith
 
       on : (q : Option Numbers) → callRefusal c v r3 (at b s) ≡ q
-          → unless q (at b s) (readCall b (finished (errorBy c) true (s .monitor) (worked m (at b s)))) ≡ told (run (singleStep c v r3) (min rangeLimit m) (at b s))
+          → unless q (at b s) (readCall b (effected v s (finished (errorBy c) true (worked m (at b s))))) ≡ told (run (singleStep c v r3) (min rangeLimit m) (at b s))
       on none e =
           let g = granuleOf b in
           let passes = call-passed c v r3 b s e in

@@ -23,9 +23,9 @@ use Rattle.pairs.specs.declared.pairs.GranuleState.{GranuleState}
 use Rattle.pairs.specs.declared.pairs.GranuleState.the-variants as granule-state
 use Rattle.tables.proofs.RowLaws.{row-inside}
 use Rattle.pairs.proofs.Found.{mapWordBy, granule-says}
-use Rattle.records.specs.State.{State}
-use Rattle.records.specs.declared.answer.Numbers.{Numbers}
-use Rattle.records.proofs.TestLaws.{all-pass}
+use Rattle.commands.specs.State.{State}
+use Rattle.answers.specs.declared.answer.Numbers.{Numbers}
+use Rattle.commands.proofs.TestLaws.{all-pass}
 use Rattle.claims.specs.SingleSteps.{RangeCall, share, unshare, rangeGuardMap, rangeGuardUnmap, kindRight, granuleTests, frameIn, wordMade, changedAt, At, at, singleStep}
 use Rattle.claims.proofs.Differing.{differing-none, differing-set}
 use Rattle.claims.specs.Pieces.{differing, CountsChanges}

@@ -15,24 +15,24 @@ use Rattle.words.specs.FrameWord.{frameBits, frameWordOf}
 use Rattle.tables.specs.Length.{framesHold, mapHolds}
 use Rattle.tables.specs.Row.{boundsOf}
 use Rattle.pairs.specs.Pair.{granuleState, pairAt, frameState, pairOf}
-use Rattle.records.specs.Monitor.{guestOf, withGuest}
-use Rattle.records.specs.Answer.{numbersOf}
-use Rattle.records.specs.State.{State}
+use Rattle.records.specs.Monitor.{guestOf, withGuest, freeFrom}
+use Rattle.answers.specs.Answer.{numbersOf}
+use Rattle.commands.specs.State.{State}
 use Rattle.records.specs.declared.monitor.Monitor.{Monitor}
 use Rattle.granules.specs.Kind.{changeOf}
 use Rattle.granules.specs.Step.{stepFrom}
 use Rattle.ranges.specs.Range.{rangeLimit}
 use Rattle.functions.specs.Function.{functionOf}
-use Rattle.functions.specs.Table.{registers, callRowOf}
-use Rattle.actions.specs.Action.{actionOf}
-use Rattle.functions.specs.declared.rows.Registers.{Registers}
+use Rattle.functions.specs.Rules.{registers}
+use Rattle.call_table.specs.Table.{callRowOf}
+use Rattle.functions.specs.declared.rules.Registers.{Registers}
 use Rattle.guest_hypercalls.specs.Calls.{actOf, hypercallOf}
 use Rattle.guest_aborts.specs.Calls.{guestAccessOf, abortOf}
 use Rattle.rows.specs.WholeRow.{rowVacant, undamagedFrom, framesFreed, framesNamed}
 use Rattle.host_registers.specs.Registers.{registerNumbered, registerReadOf, registerWriteOf}
 use Rattle.host_donation.specs.Calls.{donateOf}
 use Rattle.host_frames.specs.Calls.{clearedOf, hostAccessOf}
-use Rattle.host_guests.specs.Calls.{freeFrom, createOf, runOf, showOf}
+use Rattle.host_guests.specs.Calls.{createOf, runOf, showOf}
 use Rattle.host_removal.specs.Calls.{removeOf}
 use Rattle.calls.specs.Step.{step}
 use Rattle.calls.specs.declared.call.Call.{Call}
@@ -109,7 +109,7 @@ remove-counts-frames v s = removal-counts v s
 
 -- "Cases marked * are proved about the rules themselves, together, as one table under one statement"
 pub case-table : map found cases ≡ map expected cases
-unfolding step donateOf hypercallOf abortOf actOf guestAccessOf functionOf callRowOf actionOf stepFrom changeOf granuleState pairAt frameState pairOf mapWordOf frameWordOf mapBits frameBits numbersOf guestOf withGuest framesHold mapHolds
+unfolding step donateOf hypercallOf abortOf actOf guestAccessOf functionOf callRowOf stepFrom changeOf granuleState pairAt frameState pairOf mapWordOf frameWordOf mapBits frameBits numbersOf guestOf withGuest framesHold mapHolds
 case-table = refl
 
 -- and cases of the host's calls: each verdict that one can have, in sound and in damaged tables

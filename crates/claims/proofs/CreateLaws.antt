@@ -10,14 +10,16 @@ use lib.Dec.{ltb}
 use lib.ListN.{length}
 use Rattle.tables.specs.Length.{lengthsHold}
 use Rattle.tables.specs.Row.{boundsOf, rowOf}
-use Rattle.records.specs.Monitor.{guestOf}
-use Rattle.records.specs.Answer.{numbersOf}
-use Rattle.records.specs.State.{State}
-use Rattle.records.specs.Tests.{firstRefusal, unlessRefused}
+use Rattle.records.specs.Monitor.{guestOf, freeFrom, freeSlot}
+use Rattle.answers.specs.Answer.{numbersOf}
+use Rattle.commands.specs.State.{State}
+use Rattle.commands.specs.Tests.{firstRefusal}
+use Rattle.commands.specs.Command.{hostSuccess, changeRecord, unlessRefused, effected}
+use Rattle.records.specs.declared.change.Change.the-variants.{Created}
 use Rattle.records.specs.declared.monitor.Monitor.{Monitor}
-use Rattle.records.specs.declared.answer.Answer.the-variants.{BadLength, Damaged, NoFreeSlot}
+use Rattle.answers.specs.declared.answer.Answer.the-variants.{BadLength, Damaged, NoFreeSlot}
 use Rattle.rows.specs.WholeRow.{rowVacant}
-use Rattle.host_guests.specs.Calls.{freeFrom, freeSlot, created, createOf}
+use Rattle.host_guests.specs.Calls.{createOf}
 use Rattle.claims.specs.HostCalls.{SevenExactly}
 
 module _ (m : Monitor) where
@@ -54,7 +56,7 @@ unfolding rowVacant boundsOf
 no-row map v e = rw e
 
 -- what verdict 7 says of the three tests of create
-seven-by : (a b c : Bool) (v : ℕ) (s : State) → numbersOf (unlessRefused (firstRefusal ((a, BadLength) ∷ (b, Damaged) ∷ (c, NoFreeSlot) ∷ [])) s (created v s) .answer) .verdict ≡ 7
+seven-by : (a b c : Bool) (v : ℕ) (s : State) → numbersOf (effected v s (unlessRefused (firstRefusal ((a, BadLength) ∷ (b, Damaged) ∷ (c, NoFreeSlot) ∷ [])) (changeRecord Created (hostSuccess v))) .answer) .verdict ≡ 7
     → (a ≡ true) × (c ≡ false)
 unfolding numbersOf
 seven-by false b c v s e = let z : _≡_ {A = ℕ} 1 7 = e in absurd (omega arith)

@@ -11,22 +11,28 @@ use lib.ListN.{length}
 use Rattle.words.specs.Granule.{granuleSize, isBase}
 use Rattle.words.proofs.Booleans.{and-false}
 use Rattle.tables.specs.Length.{lengthsHold}
-use Rattle.records.specs.Answer.{numbersOf}
-use Rattle.records.specs.State.{State, Answered, answered}
-use Rattle.records.specs.Tests.{firstRefusal, unlessRefused}
-use Rattle.records.specs.Monitor.{guestOf}
-use Rattle.records.specs.declared.answer.Answer.{Answer}
-use Rattle.records.specs.declared.answer.Answer.the-variants.{BadLength, NoGuest, NeverRun}
-use Rattle.records.specs.declared.answer.Numbers.{Numbers}
+use Rattle.answers.specs.Answer.{numbersOf}
+use Rattle.commands.specs.State.{State, Answered, answered}
+use Rattle.commands.specs.Tests.{firstRefusal}
+use Rattle.commands.specs.Command.{Effect, unlessRefused, viewOf, effected}
+use Rattle.records.specs.Monitor.{guestOf, liveIn}
+use Rattle.answers.specs.declared.answer.Answer.{Answer}
+use Rattle.answers.specs.declared.answer.Answer.the-variants.{BadLength, NoGuest, NeverRun}
+use Rattle.answers.specs.declared.answer.Numbers.{Numbers}
 use Rattle.ranges.specs.Range.{rangeLimit}
 use Rattle.functions.specs.Function.{functionOf, askedBy}
-use Rattle.functions.specs.Table.{registers, errorAnswer, callRow, callRowOf}
-use Rattle.actions.specs.Action.{actionOf}
+use Rattle.functions.specs.Rules.{registers, errorAnswer}
+use Rattle.call_table.specs.Table.{callRow, callRowOf}
+use Rattle.call_table.specs.declared.rows.Action.{Action}
+use Rattle.call_table.specs.declared.rows.Action.the-variants as action
+use Rattle.call_table.specs.declared.rows.Count.the-variants.{Asked, AskedOrOne}
+use Rattle.granules.specs.Kind.{sharing, unsharing, guarding, unguarding}
+use Rattle.granules.specs.declared.kinds.Operation.{Operation}
 use Rattle.functions.specs.declared.numbers.Function.{Function}
 use Rattle.functions.specs.declared.numbers.Function.the-variants.{Share, Unshare, RangeGuardMap, RangeGuardUnmap}
-use Rattle.functions.specs.declared.rows.Rule.the-variants.{Any, NotZero, Base}
-use Rattle.functions.specs.declared.rows.Condition.the-variants.{Enrolment}
-use Rattle.functions.specs.declared.rows.Error.the-variants.{NotSupported}
+use Rattle.functions.specs.declared.rules.Rule.the-variants.{Any, NotZero, Base}
+use Rattle.functions.specs.declared.rules.Condition.the-variants.{Enrolment}
+use Rattle.functions.specs.declared.rules.Error.the-variants.{NotSupported}
 use Rattle.guest_hypercalls.specs.Calls.{actOf, hypercallOf}
 use Rattle.claims.specs.SingleSteps.{RangeCall, share, unshare, rangeGuardMap, rangeGuardUnmap, numberOf, At, at, singleStep}
 use Rattle.claims.specs.Pieces.{refuses, callAt, differing, CountsChanges}
@@ -79,41 +85,41 @@ module _ (c : RangeCall) (r0 : ℕ) (number : r0 % 2 ^ 32 ≡ numberOf c) (v b r
       record { done = p .0; none = p .1 }
 
   -- "Count 0 means 1 for share and unshare"
-  zero-is-one : (f : Function) → askedBy r0 ≡ f → actionOf f 0 ≡ actionOf f 1 → callRowOf f .r2 ≡ Any → called 0 ≡ called 1
-  unfolding hypercallOf called
-  zero-is-one f e same any = rw (e, same, any)
+  zero-is-one : (f : Function) (o : Operation) → askedBy r0 ≡ f → callRowOf f .action ≡ action.Change o AskedOrOne → callRowOf f .r2 ≡ Any → called 0 ≡ called 1
+  unfolding hypercallOf called actOf
+  zero-is-one f o e same any = rw (e, same, any)
 
   refused-tells : (a : Answer) → refuses (numbersOf a) ≡ true → TellsChanges s (answered s a)
   refused-tells a h = record { done = λ e. let z : _≡_ {A = ℕ} 0 1 = cc in absurd (omega arith); none = λ e. refl }
 
   -- "a range guard call with count 0 answers NS"
-  registers-wrong : (x₁ x₂ x₃ x₄ x₅ : Bool) (done : Answered) → x₄ ≡ false
+  registers-wrong : (x₁ x₂ x₃ x₄ x₅ : Bool) (done : Effect) → x₄ ≡ false
       → TellsChanges s
-      (unlessRefused (firstRefusal ((x₁, BadLength) ∷ (x₂, NoGuest) ∷ (x₃, NeverRun) ∷ [])) s
-      (unlessRefused (firstRefusal ((x₄, errorAnswer NotSupported) ∷ (x₅, errorAnswer NotSupported) ∷ [])) s done))
+      (effected v s
+      (unlessRefused (firstRefusal ((x₁, BadLength) ∷ (x₂, NoGuest) ∷ (x₃, NeverRun) ∷ (x₄, errorAnswer NotSupported) ∷ (x₅, errorAnswer NotSupported) ∷ [])) done))
   unfolding numbersOf
   registers-wrong false x₂ x₃ x₄ x₅ done h = refused-tells BadLength refl
   registers-wrong true false x₃ x₄ x₅ done h = refused-tells NoGuest refl
   registers-wrong true true false x₄ x₅ done h = refused-tells NeverRun refl
   registers-wrong true true true x₄ x₅ done h = rw h (refused-tells (errorAnswer NotSupported) refl)
 
-  zero-refused : (f : Function) → askedBy r0 ≡ f → callRowOf f ≡ callRow Base NotZero Any Enrolment NotSupported → TellsChanges s (called 0)
+  zero-refused : (f : Function) (a : Action) → askedBy r0 ≡ f → callRowOf f ≡ callRow Base NotZero Any Enrolment NotSupported a → TellsChanges s (called 0)
   unfolding hypercallOf called
-  zero-refused f e same =
+  zero-refused f a e same =
       let guest = guestOf (s .monitor) v in
       rw (e, same)
-      (registers-wrong (lengthsHold (length (s .frames)) (length (s .map))) (guest .live) (guest .run) (isBase b && false) (guest .enrolled)
-      (actOf v b NotSupported (actionOf f 0) s) (and-false (isBase b)))
+      (registers-wrong (lengthsHold (length (s .frames)) (length (s .map))) (liveIn v guest) (guest .run) (isBase b && false) (guest .enrolled)
+      (actOf (registers r0 b 0 r3) NotSupported a (viewOf v s)) (and-false (isBase b)))
 
   zero-count : TellsChanges s (called 0)
-  unfolding callRowOf actionOf
+  unfolding callRowOf
   zero-count = on c (ap functionOf number ∙ number-asked c)
     where
       on : (c : RangeCall) → askedBy r0 ≡ functionBy c → TellsChanges s (called 0)
-      on share e = rw (zero-is-one Share e refl refl) (counted 1 (omega arith))
-      on unshare e = rw (zero-is-one Unshare e refl refl) (counted 1 (omega arith))
-      on rangeGuardMap e = zero-refused RangeGuardMap e refl
-      on rangeGuardUnmap e = zero-refused RangeGuardUnmap e refl
+      on share e = rw (zero-is-one Share sharing e refl refl) (counted 1 (omega arith))
+      on unshare e = rw (zero-is-one Unshare unsharing e refl refl) (counted 1 (omega arith))
+      on rangeGuardMap e = zero-refused RangeGuardMap (action.Change guarding Asked) e refl
+      on rangeGuardUnmap e = zero-refused RangeGuardUnmap (action.Change unguarding Asked) e refl
 
   pub tells-changes : (m : ℕ) → TellsChanges s (hypercallOf v (registers r0 b m r3) s)
   unfolding called

@@ -22,11 +22,12 @@ use Rattle.tables.specs.Length.{lengthsHold}
 use Rattle.tables.specs.Row.{rowOf}
 use Rattle.pairs.specs.Pair.{frameNamesBack, granuleState, granuleUndamaged}
 use Rattle.pairs.specs.declared.pairs.GranuleState.the-variants as granule-state
-use Rattle.records.specs.Answer.{numbersOf}
-use Rattle.records.specs.Monitor.{guestOf}
-use Rattle.records.specs.State.{State, Answered}
-use Rattle.records.specs.Tests.{firstRefusal, unlessRefused}
-use Rattle.records.specs.declared.answer.Answer.the-variants.{BadLength, NoGuest, Damaged}
+use Rattle.answers.specs.Answer.{numbersOf}
+use Rattle.records.specs.Monitor.{guestOf, liveIn}
+use Rattle.commands.specs.State.{State}
+use Rattle.commands.specs.Tests.{firstRefusal}
+use Rattle.commands.specs.Command.{Effect, unlessRefused, viewOf, effected}
+use Rattle.answers.specs.declared.answer.Answer.the-variants.{BadLength, NoGuest, Damaged}
 use Rattle.rows.specs.WholeRow.{undamagedFrom, rowUndamaged, frameFreed, framesFreed, frameNamed, framesNamed}
 use Rattle.host_removal.specs.Calls.{removed, removeOf}
 use Rattle.claims.specs.Pieces.{differing}
@@ -108,18 +109,18 @@ module _ (first : List ℕ) (v : ℕ) where
       ∙ zero-add (framesNamed ws))
 
 -- of the three refusals none has verdict 0
-unless-counted : (a b c : Bool) (s : State) (done : Answered) → (c ≡ true → CountsFrames s done)
-    → CountsFrames s (unlessRefused (firstRefusal ((a, BadLength) ∷ (b, NoGuest) ∷ (c, Damaged) ∷ [])) s done)
+unless-counted : (a b c : Bool) (v : ℕ) (s : State) (done : Effect) → (c ≡ true → CountsFrames s (effected v s done))
+    → CountsFrames s (effected v s (unlessRefused (firstRefusal ((a, BadLength) ∷ (b, NoGuest) ∷ (c, Damaged) ∷ [])) done))
 unfolding numbersOf
-unless-counted true true true s done k = k refl
-unless-counted true true false s done k = λ h. absurd (omega arith)
-unless-counted true false c s done k = λ h. absurd (omega arith)
-unless-counted false b c s done k = λ h. absurd (omega arith)
+unless-counted true true true v s done k = k refl
+unless-counted true true false v s done k = λ h. absurd (omega arith)
+unless-counted true false c v s done k = λ h. absurd (omega arith)
+unless-counted false b c v s done k = λ h. absurd (omega arith)
 
 -- a removal that is done tells in v0 how many frame words it changed
 pub removal-counts : (v : ℕ) (s : State) → CountsFrames s (removeOf v s)
 unfolding removeOf numbersOf
 removal-counts v s =
     let row = rowOf (s .map) v in
-    unless-counted (lengthsHold (length (s .frames)) (length (s .map))) (guestOf (s .monitor) v .live) (rowUndamaged (s .frames) v row) s (removed v s)
+    unless-counted (lengthsHold (length (s .frames)) (length (s .map))) (liveIn v (guestOf (s .monitor) v)) (rowUndamaged (s .frames) v row) v s (removed (viewOf v s))
     (λ u h. freed-counts (s .frames) v row u)

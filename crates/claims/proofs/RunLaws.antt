@@ -3,19 +3,19 @@ use mathlib.Core.Path.{_≡_, refl, ap, _∙_}
 use mathlib.Core.Bool.{Bool, true, false}
 use Prim.Native.Nat.{ℕ}
 use Rattle.records.specs.Monitor.{markRun, guestOf, withGuest}
-use Rattle.records.specs.State.{State, state}
-use Rattle.records.proofs.MonitorLaws.{guest-put-live, put-again}
+use Rattle.commands.specs.State.{State, state}
+use Rattle.records.proofs.MonitorLaws.{guest-put-live, put-again, lives}
 use Rattle.host_guests.specs.Calls.{runOf}
 
 module _ (v : ℕ) (s : State) where
   dead-left : guestOf (s .monitor) v .live ≡ false → runOf v s .left ≡ s
   unfolding runOf
-  dead-left e = rw e
+  dead-left e = rw (lives (s .monitor) v, e)
 
   live-left : guestOf (s .monitor) v .live ≡ true
       → runOf v s .left ≡ state (s .frames) (s .map) (withGuest (s .monitor) v (markRun (guestOf (s .monitor) v)))
   unfolding runOf
-  live-left e = rw e
+  live-left e = rw (lives (s .monitor) v, e)
 
 pub run-twice : (v : ℕ) (s : State) → runOf v (runOf v s .left) .left ≡ runOf v s .left
 run-twice v s = on (guestOf (s .monitor) v .live) refl

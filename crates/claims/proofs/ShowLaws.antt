@@ -9,12 +9,12 @@ use Rattle.tables.specs.Length.{mapHolds}
 use Rattle.tables.specs.Row.{rowOf}
 use Rattle.tables.proofs.LengthLaws.{width-between}
 use Rattle.tables.proofs.RowLaws.{row-length}
-use Rattle.records.specs.Monitor.{guestOf}
-use Rattle.records.specs.Answer.{numbersOf}
-use Rattle.records.specs.Tests.{firstRefusal}
+use Rattle.records.specs.Monitor.{guestOf, liveIn}
+use Rattle.answers.specs.Answer.{numbersOf}
+use Rattle.commands.specs.Tests.{firstRefusal}
 use Rattle.records.specs.declared.monitor.Monitor.{Monitor}
-use Rattle.records.specs.declared.answer.Answer.the-variants.{BadLength, NoGuest}
-use Rattle.records.proofs.MonitorLaws.{live-slot}
+use Rattle.answers.specs.declared.answer.Answer.the-variants.{BadLength, NoGuest}
+use Rattle.records.proofs.MonitorLaws.{lived}
 use Rattle.host_guests.specs.Calls.{Shown, shownUnless, showOf}
 use Rattle.claims.specs.HostCalls.{RowOrEmpty}
 
@@ -29,11 +29,11 @@ shown-by true true row x e = rw e (λ h. (refl, refl, refl), λ n. absurd (n ref
 pub row-or-empty : (v : ℕ) (m : Monitor) (map : List ℕ) → RowOrEmpty v m map
 unfolding showOf
 row-or-empty v m map =
-    let p = shown-by (mapHolds (length map)) (guestOf m v .live) (rowOf map v) (showOf v m map) refl in
+    let p = shown-by (mapHolds (length map)) (liveIn v (guestOf m v)) (rowOf map v) (showOf v m map) refl in
     record {
       row = λ h.
           let q = p .0 h in
-          let long : 1 ≤ length (rowOf map v) = omega (arith, row-length map v (live-slot m v (q .1)), width-between (length map) (q .0)) in
+          let long : 1 ≤ length (rowOf map v) = omega (arith, row-length map v (lived v (guestOf m v) (q .1) .0), width-between (length map) (q .0)) in
           (q .2, rw (q .2) long);
       empty = p .1;
     }

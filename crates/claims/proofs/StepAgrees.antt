@@ -23,11 +23,11 @@ use Rattle.pairs.specs.Pair.{granuleState, pairAt}
 use Rattle.pairs.specs.declared.pairs.GranuleState.{GranuleState}
 use Rattle.pairs.specs.declared.pairs.GranuleState.the-variants as granule-state
 use Rattle.pairs.proofs.Found.{granule-says, granule-names}
-use Rattle.records.specs.Answer.{verdictWith}
-use Rattle.records.specs.State.{state}
-use Rattle.records.specs.Tests.{firstRefusal}
+use Rattle.answers.specs.Answer.{verdictWith}
+use Rattle.commands.specs.State.{state}
+use Rattle.commands.specs.Tests.{firstRefusal}
 use Rattle.records.specs.declared.monitor.Monitor.{Monitor}
-use Rattle.records.specs.declared.answer.Numbers.{Numbers}
+use Rattle.answers.specs.declared.answer.Numbers.{Numbers}
 use Rattle.granules.specs.Kind.{sharing, unsharing, guarding, unguarding, changeOf}
 use Rattle.granules.specs.Step.{Place, place, Refusal, isDamaged, notDone, written, stepFrom, tableStep}
 use Rattle.granules.specs.declared.kinds.Operation.{Operation}

@@ -1,21 +1,20 @@
 -- Document 01, "Bench sheet": the cases marked *, with all five numbers of each answer.
-use mathlib.Core.Bool.{true, false}
 use mathlib.Core.List.{List, [], _∷_}
 use Prim.Native.Nat.{ℕ, _-_, _^_}
 use lib.ListN.{replicate, set}
-use Rattle.records.specs.Monitor.{fresh, withGuest}
-use Rattle.records.specs.Answer.{numbers, verdictWith}
-use Rattle.records.specs.State.{State, state}
+use Rattle.records.specs.Monitor.{newGuest, markRun, fresh, withGuest}
+use Rattle.answers.specs.Answer.{numbers, verdictWith}
+use Rattle.commands.specs.State.{State, state}
 use Rattle.records.specs.declared.guest.Guest.{Guest}
-use Rattle.records.specs.declared.answer.Numbers.{Numbers}
-use Rattle.functions.specs.Table.{registers}
+use Rattle.answers.specs.declared.answer.Numbers.{Numbers}
+use Rattle.functions.specs.Rules.{registers}
 use Rattle.calls.specs.declared.call.Call.{Call}
 use Rattle.calls.specs.declared.call.Call.the-variants.{Donate, Hypercall, Abort}
 use Rattle.claims.specs.Case.{Case, case}
 
 -- a guest that was run
 abbrev pub caller : Guest
-caller = record { live = true; run = true; enrolled = false; std = 0; «std_hyp» = 0; «vendor_hyp» = 1 }
+caller = markRun newGuest
 
 -- "Slot 0, F = 256, W = 64, run, granule 5 private, 6 vacant": the frame is 3, and all other granules are vacant too
 abbrev pub bench : State

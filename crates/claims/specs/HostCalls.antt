@@ -7,8 +7,8 @@ use lib.ListN.{length}
 use Rattle.tables.specs.Length.{lengthsHold}
 use Rattle.tables.specs.Row.{rowOf}
 use Rattle.records.specs.Monitor.{guestOf}
-use Rattle.records.specs.Answer.{numbersOf}
-use Rattle.records.specs.State.{State, Answered}
+use Rattle.answers.specs.Answer.{numbersOf}
+use Rattle.commands.specs.State.{State, Answered}
 use Rattle.records.specs.declared.monitor.Monitor.{Monitor}
 use Rattle.host_guests.specs.Calls.{createOf, showOf}
 use Rattle.claims.specs.Pieces.{differing}

@@ -3,18 +3,18 @@ use mathlib.Core.Bool.{true, false}
 use mathlib.Core.List.{List, [], _∷_, _++_}
 use Prim.Native.Nat.{ℕ, _-_, _^_}
 use lib.ListN.{replicate}
-use Rattle.records.specs.Monitor.{zeroGuest, newGuest, markRun}
-use Rattle.records.specs.Answer.{verdictWith}
-use Rattle.records.specs.State.{State, state}
+use Rattle.records.specs.Monitor.{withFlags, withBitmaps, zeroGuest, newGuest, markRun}
+use Rattle.answers.specs.Answer.{verdictWith}
+use Rattle.commands.specs.State.{State, state}
 use Rattle.records.specs.declared.guest.Guest.{Guest}
 use Rattle.records.specs.declared.monitor.Monitor.{Monitor}
-use Rattle.records.specs.declared.answer.Numbers.{Numbers}
+use Rattle.answers.specs.declared.answer.Numbers.{Numbers}
 use Rattle.calls.specs.declared.call.Call.the-variants.{Create, Donate, Run, Remove, Cleared, Access, Show, RegisterRead, RegisterWrite}
 use Rattle.claims.specs.Case.{Case, case}
 
 -- a record that is not live and not zero
 abbrev pub deadNonZero : Guest
-deadNonZero = record { live = false; run = true; enrolled = true; std = 1; «std_hyp» = 2; «vendor_hyp» = 7 }
+deadNonZero = withFlags false true true (withBitmaps 1 2 7 zeroGuest)
 
 -- slot 0 was run, slot 1 was not, the others are dead
 abbrev pub records : Monitor

@@ -7,11 +7,11 @@ use lib.Dec.{eqb}
 use lib.ListN.{length}
 use Rattle.runs.specs.Run.{complete, refused, End, ended, pieces}
 use Rattle.words.specs.Granule.{granuleSize}
-use Rattle.records.specs.Answer.{numbersOf}
-use Rattle.records.specs.State.{State, Answered}
-use Rattle.records.specs.declared.answer.Numbers.{Numbers}
+use Rattle.answers.specs.Answer.{numbersOf}
+use Rattle.commands.specs.State.{State, Answered}
+use Rattle.answers.specs.declared.answer.Numbers.{Numbers}
 use Rattle.guest_hypercalls.specs.Calls.{hypercallOf}
-use Rattle.functions.specs.Table.{registers}
+use Rattle.functions.specs.Rules.{registers}
 use Rattle.claims.specs.SingleSteps.{At, at}
 
 -- "A call refuses here when its answer isn't verdict 10 with R0 = 0."

@@ -3,8 +3,8 @@
 use mathlib.Core.Path.{_≡_}
 use mathlib.Core.Bool.{true, false}
 use Prim.Native.Nat.{_≤_}
-use Rattle.records.specs.Answer.{numbersOf}
-use Rattle.records.specs.State.{State, Answered}
+use Rattle.answers.specs.Answer.{numbersOf}
+use Rattle.commands.specs.State.{State, Answered}
 use Rattle.ranges.specs.Range.{rangeLimit}
 use Rattle.claims.specs.Pieces.{refuses, differing}
 

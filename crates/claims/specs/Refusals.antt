@@ -2,7 +2,7 @@
 use mathlib.Core.Bool.{Bool, _&&_, _||_}
 use Prim.Native.Nat.{_-_, _^_}
 use lib.Dec.{eqb, leb}
-use Rattle.records.specs.declared.answer.Numbers.{Numbers}
+use Rattle.answers.specs.declared.answer.Numbers.{Numbers}
 
 -- an answer with verdict 1 to 9, or 10 with −1 or −3
 abbrev pub isRefusal : Numbers → Bool

@@ -12,11 +12,11 @@ use Rattle.pairs.specs.Pair.{pairAt, granuleUndamaged}
 use Rattle.pairs.specs.declared.pairs.GranuleState.{GranuleState}
 use Rattle.pairs.specs.declared.pairs.GranuleState.the-variants as granule-state
 use Rattle.records.specs.Monitor.{guestOf}
-use Rattle.records.specs.Answer.{verdictWith}
-use Rattle.records.specs.State.{State, state}
-use Rattle.records.specs.Tests.{Tests, firstRefusal}
+use Rattle.answers.specs.Answer.{verdictWith}
+use Rattle.commands.specs.State.{State, state}
+use Rattle.commands.specs.Tests.{Tests, firstRefusal}
 use Rattle.records.specs.declared.guest.Guest.{Guest}
-use Rattle.records.specs.declared.answer.Numbers.{Numbers}
+use Rattle.answers.specs.declared.answer.Numbers.{Numbers}
 
 -- "share, unshare and both range guard calls"
 pub data RangeCall : Type 0 where

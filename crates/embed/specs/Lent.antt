@@ -5,8 +5,8 @@ use Prim.Native.Nat.{ℕ}
 use lib.Dec.{eqb}
 use lib.ListN.{length}
 use Rattle.tables.specs.Row.{boundsOf}
-use Rattle.records.specs.Answer.{numbersOf}
-use Rattle.records.specs.State.{State, state, Answered}
+use Rattle.answers.specs.Answer.{numbersOf}
+use Rattle.commands.specs.State.{State, state, Answered}
 use Rattle.records.specs.declared.monitor.Monitor.{Monitor}
 use Rattle.host_guests.specs.Calls.{showOf}
 use Rattle.record_words.specs.Words.{monitorIn, wordsAfter, answerWords}

@@ -4,11 +4,11 @@ ghost use Prim.Native.Nat.{ℕ};
 ghost use Rattle.host_donation.specs.Calls.{donateOf};
 ghost use Rattle.host_frames.specs.Calls.{clearedOf, hostAccessOf};
 ghost use Rattle.embed.specs.Lent.{lent, lentAfter};
-use host_donation::donate;
-use host_frames::access;
-use host_frames::cleared;
+use host_donation::decide_donate;
+use host_frames::decide_access;
+use host_frames::decide_cleared;
 use record_words::RECORD_WORDS;
-use record_words::monitor_in;
+use record_words::guest_in;
 use record_words::put_answer;
 
 // A frame of the host is given to a granule of the guest in a slot.
@@ -25,9 +25,8 @@ pub extern "C" fn clundip_donate(
     ensures { λ _. ⌜ lent (now (records .entry)) (now (frames .exit)) (now (map .exit)) (now (answer .exit))
         ≡ lentAfter (donateOf slot frame granule) (now (records .entry)) (now (frames .entry)) (now (map .entry)) ⌝ }
 {
-    let given = donate(monitor_in(records), frames, map, slot, frame, granule);
-    let told = given.answer;
-    put_answer(answer, told);
+    let decision = decide_donate(guest_in(records, slot), frames, map, slot, frame, granule);
+    put_answer(answer, decision);
 }
 
 // A waiting frame was cleared, and is the host's.
@@ -41,7 +40,7 @@ pub extern "C" fn clundip_cleared(
     ensures { λ _. ⌜ ((records : List ℕ) → lent records (now (frames .exit)) (now (map .entry)) (now (answer .exit))
         ≡ lentAfter (clearedOf frame) records (now (frames .entry)) (now (map .entry))) ⌝ }
 {
-    put_answer(answer, cleared(frames, map, frame));
+    put_answer(answer, decide_cleared(frames, map, frame));
 }
 
 // Whether the host may access a frame.
@@ -50,5 +49,5 @@ pub extern "C" fn clundip_access(frames: &[u32], map: &[u32], frame: u64, answer
     ensures { λ _. ⌜ ((records : List ℕ) → lent records (now (frames .entry)) (now (map .entry)) (now (answer .exit))
         ≡ lentAfter (hostAccessOf frame) records (now (frames .entry)) (now (map .entry))) ⌝ }
 {
-    put_answer(answer, access(frames, map, frame));
+    put_answer(answer, decide_access(frames, map, frame));
 }

@@ -1,16 +1,15 @@
 ghost use mathlib.Core.Path.{_≡_};
 ghost use Rattle.guest_hypercalls.specs.Calls.{hypercallOf};
 ghost use Rattle.guest_aborts.specs.Calls.{abortOf};
-ghost use Rattle.functions.specs.Table.{registers};
+ghost use Rattle.functions.specs.Rules.{registers};
 ghost use Rattle.embed.specs.Lent.{lent, lentAfter};
 use functions::Registers;
-use guest_aborts::abort;
-use guest_hypercalls::serve;
+use guest_aborts::decide_abort;
+use guest_hypercalls::decide_hypercall;
 use record_words::RECORD_WORDS;
 use record_words::guest_in;
-use record_words::monitor_in;
 use record_words::put_answer;
-use record_words::put_record;
+use record_words::put_change;
 
 // A hypercall of the guest in a slot, with R0 to R3.
 #[no_mangle]
@@ -29,10 +28,10 @@ pub extern "C" fn clundip_hypercall(
         ≡ lentAfter (hypercallOf slot (registers r0 r1 r2 r3)) (now (records .entry)) (now (frames .entry)) (now (map .entry)) ⌝ }
 {
     let registers = Registers { r0, r1, r2, r3 };
-    let served = serve(guest_in(records, slot), frames, map, slot, registers);
-    let told = served.answer;
-    put_record(records, slot, served.guest);
-    put_answer(answer, told);
+    let decision = decide_hypercall(guest_in(records, slot), frames, map, slot, registers);
+    let change = decision.change;
+    put_change(records, slot, change);
+    put_answer(answer, decision);
 }
 
 // An access of the guest in a slot that found no page.
@@ -48,7 +47,6 @@ pub extern "C" fn clundip_abort(
     ensures { λ _. ⌜ lent (now (records .entry)) (now (frames .entry)) (now (map .entry)) (now (answer .exit))
         ≡ lentAfter (abortOf slot ipa) (now (records .entry)) (now (frames .entry)) (now (map .entry)) ⌝ }
 {
-    let met = abort(monitor_in(records), frames, map, slot, ipa);
-    let told = met.answer;
-    put_answer(answer, told);
+    let guest = guest_in(records, slot);
+    put_answer(answer, decide_abort(guest, frames, map, slot, ipa));
 }

@@ -3,12 +3,12 @@ ghost use mathlib.Core.List.{List};
 ghost use Prim.Native.Nat.{ℕ};
 ghost use Rattle.host_registers.specs.Registers.{registerReadOf, registerWriteOf};
 ghost use Rattle.embed.specs.Lent.{lent, lentAfter};
-use host_registers::register_read;
-use host_registers::register_write;
+use host_registers::decide_register_read;
+use host_registers::decide_register_write;
 use record_words::RECORD_WORDS;
-use record_words::monitor_in;
+use record_words::guest_in;
 use record_words::put_answer;
-use record_words::put_reply;
+use record_words::put_change;
 
 // The host reads a firmware register of the guest in a slot.
 #[no_mangle]
@@ -21,9 +21,8 @@ pub extern "C" fn clundip_register_read(
     ensures { λ _. ⌜ ((frames map : List ℕ) → lent (now (records .entry)) frames map (now (answer .exit))
         ≡ lentAfter (registerReadOf slot register) (now (records .entry)) frames map) ⌝ }
 {
-    let read = register_read(monitor_in(records), slot, register);
-    let told = read.answer;
-    put_answer(answer, told);
+    let guest = guest_in(records, slot);
+    put_answer(answer, decide_register_read(guest, slot, register));
 }
 
 // The host writes a firmware register of the guest in a slot.
@@ -38,6 +37,8 @@ pub extern "C" fn clundip_register_write(
     ensures { λ _. ⌜ ((frames map : List ℕ) → lent (now (records .exit)) frames map (now (answer .exit))
         ≡ lentAfter (registerWriteOf slot register value) (now (records .entry)) frames map) ⌝ }
 {
-    let written = register_write(monitor_in(records), slot, register, value);
-    put_reply(records, slot, written, answer);
+    let decision = decide_register_write(guest_in(records, slot), slot, register, value);
+    let change = decision.change;
+    put_change(records, slot, change);
+    put_answer(answer, decision);
 }

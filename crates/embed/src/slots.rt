@@ -1,20 +1,21 @@
 ghost use mathlib.Core.Path.{_≡_};
 ghost use mathlib.Core.List.{List};
 ghost use Prim.Native.Nat.{ℕ};
-ghost use Rattle.records.specs.Answer.{numbersOf};
+ghost use Rattle.answers.specs.Answer.{numbersOf};
 ghost use Rattle.record_words.specs.Words.{monitorIn, answerWords};
 ghost use Rattle.host_guests.specs.Calls.{createOf, runOf, showOf};
 ghost use Rattle.host_removal.specs.Calls.{removeOf};
 ghost use Rattle.embed.specs.Lent.{lent, lentAfter, partWords};
-use host_guests::create;
-use host_guests::run;
-use host_guests::show;
-use host_guests::show_verdict;
-use host_removal::remove;
+use host_guests::decide_create;
+use host_guests::decide_run;
+use host_guests::decide_show;
+use host_guests::show_row;
+use host_removal::decide_remove;
 use record_words::RECORD_WORDS;
+use record_words::guest_in;
 use record_words::monitor_in;
 use record_words::put_answer;
-use record_words::put_reply;
+use record_words::put_change;
 use tables::row_bounds;
 
 // A guest is created in the lowest slot that is not live.
@@ -28,10 +29,11 @@ pub extern "C" fn clundip_create(
     ensures { λ _. ⌜ lent (now (records .exit)) (now (frames .entry)) (now (map .entry)) (now (answer .exit))
         ≡ lentAfter createOf (now (records .entry)) (now (frames .entry)) (now (map .entry)) ⌝ }
 {
-    let created = create(monitor_in(records), frames, map);
-    let told = created.answer;
-    let numbers = told.numbers();
-    put_reply(records, numbers.v0, created, answer);
+    let slot = monitor_in(records).free_slot();
+    let decision = decide_create(frames, map, slot);
+    let change = decision.change;
+    put_change(records, slot, change);
+    put_answer(answer, decision);
 }
 
 // The guest in a slot is run.
@@ -40,8 +42,10 @@ pub extern "C" fn clundip_run(records: &mut [u64; RECORD_WORDS], slot: u64, answ
     ensures { λ _. ⌜ ((frames map : List ℕ) → lent (now (records .exit)) frames map (now (answer .exit))
         ≡ lentAfter (runOf slot) (now (records .entry)) frames map) ⌝ }
 {
-    let ran = run(monitor_in(records), slot);
-    put_reply(records, slot, ran, answer);
+    let decision = decide_run(guest_in(records, slot), slot);
+    let change = decision.change;
+    put_change(records, slot, change);
+    put_answer(answer, decision);
 }
 
 // The guest in a slot is removed.
@@ -56,8 +60,10 @@ pub extern "C" fn clundip_remove(
     ensures { λ _. ⌜ lent (now (records .exit)) (now (frames .exit)) (now (map .exit)) (now (answer .exit))
         ≡ lentAfter (removeOf slot) (now (records .entry)) (now (frames .entry)) (now (map .entry)) ⌝ }
 {
-    let removed = remove(monitor_in(records), frames, map, slot);
-    put_reply(records, slot, removed, answer);
+    let decision = decide_remove(guest_in(records, slot), frames, map, slot);
+    let change = decision.change;
+    put_change(records, slot, change);
+    put_answer(answer, decision);
 }
 
 // The row of the guest in a slot: where it begins in the map table, and how many words it has.
@@ -72,11 +78,10 @@ pub extern "C" fn clundip_show(
     ensures { λ _. ⌜ now (answer .exit) ≡ answerWords (numbersOf (showOf slot (monitorIn (now (records .entry))) (now (map .entry)) .answer)) ⌝ }
     ensures { λ _. ⌜ now (part .exit) ≡ partWords slot (monitorIn (now (records .entry))) (now (map .entry)) ⌝ }
 {
-    let monitor = monitor_in(records);
-    let row = show(monitor, map, slot);
-    let words = row.len();
+    let guest = guest_in(records, slot);
+    let words = show_row(guest, map, slot).len();
     let bounds = row_bounds(map.len(), slot);
-    put_answer(answer, show_verdict(monitor, map, slot));
+    put_answer(answer, decide_show(guest, map, slot));
     if words == 0 {
         *part = [0, 0];
     } else {

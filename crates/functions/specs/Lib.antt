@@ -1,2 +1,2 @@
 pub mod Function
-pub mod Table
+pub mod Rules

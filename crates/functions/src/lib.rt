@@ -1,11 +1,10 @@
-// The table of guest calls: which call a function number asks for, and what it asks of the registers and of the caller's record.
-// It rests on words and records. It looks at no table of words, changes nothing, and does not say what a call does.
+// The guest calls by their numbers, and what the rows of their table are made of: rules for registers, conditions on the caller's record, and
+// errors. It rests on words, answers and records. It looks at no table of words, changes nothing, and does not say what a call does.
 mod numbers;
-mod rows;
+mod rules;
 
 pub use numbers::Function;
-pub use rows::CallRow;
-pub use rows::Condition;
-pub use rows::Error;
-pub use rows::Registers;
-pub use rows::Rule;
+pub use rules::Condition;
+pub use rules::Error;
+pub use rules::Registers;
+pub use rules::Rule;

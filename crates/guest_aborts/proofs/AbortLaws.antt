@@ -1,4 +1,4 @@
--- How an abort comes out, by the tests that its code makes on the way.
+-- How an access comes out, by what its code finds on the way.
 use mathlib.Core.Path.{_≡_}
 use mathlib.Core.List.{List}
 use Prim.Native.Nat.{ℕ, _<_, _≤_}
@@ -12,27 +12,8 @@ use Rattle.pairs.specs.Pair.{granuleState}
 use Rattle.pairs.specs.declared.pairs.GranuleState.{GranuleState}
 use Rattle.tables.proofs.RowLaws.{in-row, off-row}
 use Rattle.pairs.proofs.PairLaws.{granule-in-row}
-use Rattle.records.specs.Monitor.{guestOf}
-use Rattle.records.specs.State.{State, answered}
-use Rattle.records.specs.Tests.{firstRefusal, refusalBy}
 use Rattle.records.specs.declared.guest.Guest.{Guest}
-use Rattle.records.specs.declared.answer.Answer.{Answer}
-use Rattle.records.specs.declared.admission.Admission.{Admission}
-use Rattle.records.specs.declared.admission.Admission.the-variants as admission
-use Rattle.guest_callers.specs.Callers.{callerTests}
-use Rattle.guest_callers.proofs.CallerLaws.{caller-tested}
-use Rattle.guest_aborts.specs.Calls.{unbacked, accessAnswer, guestAccessOf, abortOf}
-
--- a call of slot v whose record is g, by the admission that verdicts 1 to 3 gave it
-module _ (v : ℕ) (s : State) (g : Guest) (e : g ≡ guestOf (s .monitor) v) (x : Admission)
-    (t : refusalBy x ≡ firstRefusal (callerTests (length (s .frames)) (length (s .map)) g)) where
-  pub abort-refused : (ipa : ℕ) (a : Answer) → x ≡ admission.Refused a → answered s a ≡ abortOf v ipa s
-  unfolding abortOf
-  abort-refused ipa a p = rw (caller-tested v s g e x t, p)
-
-  pub abort-passed : (ipa : ℕ) (a : Answer) → x ≡ admission.Passed → a ≡ guestAccessOf (s .frames) (s .map) v ipa g → answered s a ≡ abortOf v ipa s
-  unfolding abortOf
-  abort-passed ipa a p q = rw (caller-tested v s g e x t, p, q, e)
+use Rattle.guest_aborts.specs.Calls.{unbacked, accessAnswer, guestAccessOf}
 
 -- an access of slot v, whose row is `words`, in the granule g that holds the address
 module _ (frames map : List ℕ) (v : ℕ) (h : v < 8) (words : List ℕ) (e : words ≡ rowOf map v) (a g : ℕ) (eg : g ≡ granuleOf a) (guest : Guest) where

@@ -9,13 +9,12 @@ use Rattle.tables.specs.Length.{widthOf}
 use Rattle.pairs.specs.Pair.{pairAt}
 use Rattle.pairs.specs.declared.pairs.GranuleState.{GranuleState}
 use Rattle.pairs.specs.declared.pairs.GranuleState.the-variants as granule-state
-use Rattle.records.specs.Monitor.{guestOf}
-use Rattle.records.specs.State.{State, Answered, answered}
-use Rattle.records.specs.Tests.{firstRefusal, unlessRefused}
+use Rattle.commands.specs.State.{State, Answered}
+use Rattle.commands.specs.Command.{bothTables, givenSlot, answerOnly, Command, command, performed}
 use Rattle.records.specs.declared.guest.Guest.{Guest}
-use Rattle.records.specs.declared.answer.Answer.{Answer}
-use Rattle.records.specs.declared.answer.Answer.the-variants.{Damaged, MmioExit, Exception, Resume}
-use Rattle.guest_callers.specs.Callers.{callerTests}
+use Rattle.answers.specs.declared.answer.Answer.{Answer}
+use Rattle.answers.specs.declared.answer.Answer.the-variants.{Damaged, MmioExit, Exception, Resume}
+use Rattle.guest_callers.specs.Callers.{neverRunTests}
 
 -- "vacant or beyond the row is an exception if enrolled, else an MMIO exit"
 abbrev pub unbacked : ℕ → Guest → Answer
@@ -33,8 +32,9 @@ unfoldable pub guestAccessOf : List ℕ → List ℕ → ℕ → ℕ → Guest �
 guestAccessOf frames map v a g =
     cond (ltb (granuleOf a) (widthOf (length map))) (accessAnswer a g (pairAt frames map v (granuleOf a))) (unbacked a g)
 
+abbrev pub abortCommand : ℕ → ℕ → Command
+abortCommand v a =
+    command bothTables (givenSlot v) (λ x. neverRunTests (x .guest)) (λ x. answerOnly (guestAccessOf (x .frames) (x .map) (x .slot) a (x .guest)))
+
 unfoldable pub abortOf : ℕ → ℕ → State → Answered
-abortOf v a s =
-    let caller = guestOf (s .monitor) v in
-    unlessRefused (firstRefusal (callerTests (length (s .frames)) (length (s .map)) caller)) s
-    (answered s (guestAccessOf (s .frames) (s .map) v a caller))
+abortOf v a s = performed (abortCommand v a) s

@@ -1,15 +1,17 @@
 ghost use mathlib.Core.Path.{_≡_};
-ghost use Rattle.records.specs.State.{state, answered};
-ghost use Rattle.guest_aborts.specs.Calls.{unbacked, guestAccessOf, abortOf};
+ghost use Rattle.commands.specs.State.{state, answered};
+ghost use Rattle.commands.specs.Command.{view, result, resultOf};
+ghost use Rattle.guest_aborts.specs.Calls.{unbacked, guestAccessOf, abortCommand, abortOf};
 ghost use Prim.Native.Nat.{_<_};
+use answers::Answer;
+use commands::Admission;
+use commands::Decision;
+use commands::Reply;
 use guest_callers::caller_admission;
 use pairs::GranuleState;
 use pairs::granule_state;
-use records::Admission;
-use records::Answer;
 use records::Guest;
 use records::Monitor;
-use records::Reply;
 use tables::row;
 use words::Granule;
 
@@ -19,12 +21,17 @@ pub fn abort(monitor: Monitor, frames: &[u32], map: &[u32], slot: u64, ipa: u64)
         ≡ abortOf slot ipa (state (now (frames .entry)) (now (map .entry)) monitor) ⌝ }
 {
     let guest = monitor.guest(slot);
-    match caller_admission(frames.len(), map.len(), guest) {
-        Admission::Refused(answer) => Reply { monitor, answer },
-        Admission::Passed => Reply {
-            monitor,
-            answer: guest_access(frames, map, slot, ipa, guest),
-        },
+    decide_abort(guest, frames, map, slot, ipa).reply(monitor, slot)
+}
+
+// What an abort decides by the record of its slot, any record where the slot is above 7.
+pub fn decide_abort(guest: Guest, frames: &[u32], map: &[u32], slot: u64, ipa: u64) -> Decision
+    ensures { λ r. ⌜ result (now (frames .entry)) (now (map .entry)) r
+        ≡ resultOf (abortCommand slot ipa) (view (now (frames .entry)) (now (map .entry)) slot guest) ⌝ }
+{
+    match caller_admission(frames, map, slot, guest) {
+        Admission::Refused(answer) => Decision::keep(answer),
+        Admission::Passed => Decision::keep(guest_access(frames, map, slot, ipa, guest)),
     }
 }
 

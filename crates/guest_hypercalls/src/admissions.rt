@@ -1,9 +1,9 @@
 ghost use mathlib.Core.Path.{_≡_};
-ghost use Rattle.records.specs.Tests.{firstRefusal, refusalBy};
+ghost use Rattle.commands.specs.Tests.{firstRefusal, refusalBy};
 ghost use Rattle.guest_hypercalls.specs.Calls.{rowTests};
-use functions::CallRow;
+use call_table::CallRow;
+use commands::Admission;
 use functions::Registers;
-use records::Admission;
 use records::Guest;
 
 // The tests of a hypercall's row: registers, then what the record must say.

@@ -5,12 +5,12 @@ ghost use Rattle.words.specs.Granule.{granuleOf};
 ghost use Rattle.granules.specs.Step.{place, tableStep, stopBy};
 ghost use Rattle.ranges.specs.Range.{rangeLimit};
 ghost use Rattle.guest_hypercalls.specs.Calls.{doneAnswer};
+use answers::Answer;
 use functions::Error;
 use granules::Operation;
 use granules::Outcome;
 use ranges::Progress;
 use ranges::change_range;
-use records::Answer;
 use tables::row_bounds;
 use words::Granule;
 

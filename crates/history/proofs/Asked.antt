@@ -8,7 +8,7 @@ use Rattle.words.specs.Granule.{granuleOf}
 use Rattle.functions.specs.Function.{functionOf, askedBy}
 use Rattle.functions.specs.declared.numbers.Function.{Function}
 use Rattle.functions.specs.declared.numbers.Function.the-variants.{Features, Uid, MemoryInfo, Share, Unshare, GuardInfo, Enroll, GuardMap, GuardUnmap, Relinquish, RangeGuardMap, RangeGuardUnmap, Unknown}
-use Rattle.functions.specs.declared.rows.Registers.{Registers}
+use Rattle.functions.specs.declared.rules.Registers.{Registers}
 use Rattle.history.specs.Log.{FrameChange, shared, unshared, relinquished, among, changedWhere, afterHypercall}
 
 -- what a function that is done makes of a frame, with n told in R1

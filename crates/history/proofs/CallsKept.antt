@@ -1,37 +1,62 @@
 -- Every call keeps the invariant and agrees with the log; so does every history.
-use mathlib.Core.Path.{_≡_, sym, _∙_}
+use mathlib.Core.Path.{_≡_, refl, sym, _∙_}
 use mathlib.Core.Bool.{true}
 use mathlib.Core.List.{List, [], _∷_}
 use Prim.Native.Nat.{ℕ, _+_, _*_, _<_}
 use native.Mathlib.Omega.{arith}
-use lib.ListN.{length-replicate, getD-replicate}
+use lib.ListN.{length, length-replicate, getD-replicate}
 use Rattle.words.specs.MapWord.{mapBits}
 use Rattle.words.specs.FrameWord.{frameBits}
 use Rattle.words.specs.declared.map_word.MapWord.the-variants as map-word
 use Rattle.words.specs.declared.frame_word.FrameWord.the-variants as frame-word
 use Rattle.words.proofs.MapWordLaws.{map-decode-encode}
 use Rattle.words.proofs.FrameWordLaws.{frame-decode-encode}
-use Rattle.tables.specs.Length.{lengthsHold}
-use Rattle.records.specs.Answer.{numbersOf}
-use Rattle.records.specs.Monitor.{zeroGuest}
-use Rattle.records.specs.State.{State}
-use Rattle.records.proofs.MonitorLaws.{guest-fresh}
+use Rattle.words.proofs.Booleans.{both-true}
+use Rattle.tables.specs.Length.{framesHold, mapHolds, lengthsHold}
+use Rattle.answers.specs.Answer.{numbersOf}
+use Rattle.records.specs.Monitor.{zeroGuest, guestOf}
+use Rattle.commands.specs.State.{State}
+use Rattle.records.proofs.MonitorLaws.{guest-fresh, lived}
 use Rattle.calls.specs.Step.{step, stateAfter, freshState}
 use Rattle.calls.specs.declared.call.Call.{Call}
 use Rattle.calls.specs.declared.call.Call.the-variants.{Create, Donate, Run, Remove, Cleared, Access, Show, RegisterRead, RegisterWrite, Hypercall, Abort}
 use Rattle.history.specs.Log.{FrameChange, afterCall, lastFrom}
 use Rattle.history.specs.History.{logOf}
-use Rattle.history.proofs.Seen.{own, look, index-below}
+use Rattle.history.proofs.Seen.{own, look, index-below, lengths-hold}
 use Rattle.history.proofs.WordsSound.{WordsSound}
 use Rattle.history.proofs.RecordLaws.{zero-sound}
 use Rattle.history.proofs.Held.{ownerAfter}
-use Rattle.history.proofs.Kept.{Kept}
+use Rattle.history.proofs.Kept.{Kept, test, sure}
+use Rattle.history.proofs.StillCalls.{calm-kept}
 use Rattle.history.proofs.FrameCalls.{keep-donate, keep-cleared, keep-access}
-use Rattle.history.proofs.SlotCalls.{keep-create, keep-run, keep-remove, keep-show, keep-read, keep-write}
+use Rattle.history.proofs.SlotCalls.{keep-create, keep-remove}
 use Rattle.history.proofs.GuestCalls.{keep-hypercall, keep-abort}
 
+-- the calls that write no table, by what their tests find
+module _ {F W : ℕ} {s : State} (i : WordsSound F W s) where
+  keep-run : (v : ℕ) → Kept F W s (Run v) (step (Run v) s)
+  unfolding numbersOf
+  keep-run v = calm-kept i (Run v) (λ f n x. refl) (test (λ q. (refl, refl)) λ a. tt) (λ p. lived v (guestOf (s .monitor) v) (p .0) .1)
+
+  keep-show : (v : ℕ) → Kept F W s (Show v) (step (Show v) s)
+  unfolding numbersOf
+  keep-show v =
+      calm-kept i (Show v) (λ f n x. refl)
+      (test (sure _ (both-true (framesHold (length (s .frames))) (mapHolds (length (s .map))) (lengths-hold (i .sized)) .1)) λ a. test (λ q. (refl, refl)) λ b. tt)
+      (λ p. refl)
+
+  keep-read : (v n : ℕ) → Kept F W s (RegisterRead v n) (step (RegisterRead v n) s)
+  unfolding numbersOf
+  keep-read v n = calm-kept i (RegisterRead v n) (λ f k x. refl) (test (λ q. (refl, refl)) λ a. test (λ q. (refl, refl)) λ b. tt) (λ p. refl)
+
+  keep-write : (v n y : ℕ) → Kept F W s (RegisterWrite v n y) (step (RegisterWrite v n y) s)
+  unfolding numbersOf
+  keep-write v n y =
+      calm-kept i (RegisterWrite v n y) (λ f k x. refl)
+      (test (λ q. (refl, refl)) λ a. test (λ q. (refl, refl)) λ b. test (λ q. (refl, refl)) λ c. test (λ q. (refl, refl)) λ d. tt)
+      (λ p. (lived v (guestOf (s .monitor) v) (p .0) .1, p .1 .1 .0))
+
 pub keep : {F W : ℕ} {s : State} → WordsSound F W s → (c : Call) → Kept F W s c (step c s)
-unfolding step
 keep i Create = keep-create i
 keep i (Donate v f g) = keep-donate i v f g
 keep i (Run v) = keep-run i v

@@ -5,7 +5,7 @@ use Prim.Native.Nat.{ℕ, suc, _+_, _*_, _%_, _<_, _^_}
 use native.Mathlib.Omega.{arith}
 use borrow.Author.Tests.{lt-ltb, eq-eqb}
 use lib.ListN.{set}
-use Rattle.runs.specs.Run.{took, run}
+use Rattle.runs.specs.Run.{took}
 use Rattle.words.specs.Granule.{addressOf, isBase}
 use Rattle.words.specs.MapWord.{mapBits, mapWordOf}
 use Rattle.words.specs.FrameWord.{frameBits}
@@ -14,20 +14,22 @@ use Rattle.words.specs.declared.frame_word.FrameWord.the-variants as frame-word
 use Rattle.words.proofs.GranuleLaws.{granule-address}
 use Rattle.tables.specs.Row.{wordAt}
 use Rattle.pairs.specs.Pair.{granuleState}
-use Rattle.records.specs.Monitor.{newGuest, enroll, guestOf, withGuest}
-use Rattle.records.specs.State.{State, state}
-use Rattle.records.proofs.MonitorLaws.{live-slot}
+use Rattle.records.specs.Monitor.{newGuest, markRun, enroll, guestOf, withGuest, freeSlot}
+use Rattle.records.specs.Change.{withBitmap}
+use Rattle.commands.specs.Command.{viewOf, effected}
+use Rattle.records.specs.declared.change.FirmwareRegister.the-variants.{VendorHyp}
+use Rattle.commands.specs.State.{State, state}
+use Rattle.records.proofs.MonitorLaws.{live-slot, lives}
 use Rattle.granules.specs.Kind.{changeOf, sharing, guarding}
 use Rattle.granules.specs.Step.{place, stepFrom, tableStep}
 use Rattle.functions.specs.Function.{functionOf}
-use Rattle.functions.specs.Table.{registers, callRowOf}
-use Rattle.actions.specs.Action.{actionOf}
-use Rattle.functions.specs.declared.rows.Registers.{Registers}
-use Rattle.guest_hypercalls.specs.Calls.{actOf, hypercallOf}
-use Rattle.host_registers.specs.Registers.{registerNumbered, bitmapWritten, registerWriteOf}
-use Rattle.host_donation.specs.Calls.{donated, donateOf}
-use Rattle.host_guests.specs.Calls.{freeSlot, createOf, ran, runOf}
-use Rattle.host_removal.specs.Calls.{removed, removeOf}
+use Rattle.functions.specs.Rules.{registers}
+use Rattle.call_table.specs.Table.{callRowOf}
+use Rattle.functions.specs.declared.rules.Registers.{Registers}
+use Rattle.guest_hypercalls.specs.Calls.{actOf}
+use Rattle.host_registers.specs.Registers.{registerNumbered}
+use Rattle.host_donation.specs.Calls.{donated}
+use Rattle.host_removal.specs.Calls.{removed}
 use Rattle.calls.specs.Step.{step}
 use Rattle.calls.specs.declared.call.Call.the-variants.{Create, Donate, Run, Remove, RegisterWrite, Hypercall}
 use Rattle.history.specs.Reachable.{Fits}
@@ -39,28 +41,29 @@ use Rattle.history.proofs.SlotCalls.{free-row, row-undamaged}
 module _ {F W : ℕ} {s : State} (i : WordsSound F W s) where
   pub does-create : (v : ℕ) → freeSlot (s .monitor) ≡ v → v < 8 → guestOf (s .monitor) v .live ≡ false
       → step Create s .left ≡ state (s .frames) (s .map) (withGuest (s .monitor) v newGuest)
-  unfolding step createOf
+  unfolding step
   does-create v e h dead = rw (e, lengths-hold (i .sized), free-row i v (λ l. dead), lt-ltb v 8 h)
 
   pub does-donate : (v f g : ℕ) → guestOf (s .monitor) v .live ≡ true → f < F → g < W → own s f ≡ frame-word.Host → look W s v g ≡ map-word.Vacant
-      → step (Donate v f g) s .left ≡ donated v f g s .left
-  unfolding step donateOf
+      → step (Donate v f g) s .left ≡ effected v s (donated f g (viewOf v s)) .left
+  unfolding step
   does-donate v f g live h l host vacant =
       let slot = live-slot (s .monitor) v live in
-      rw (lengths-hold (i .sized), live, i .sized .frame-words, lt-ltb f F h, width-is (i .sized), lt-ltb g W l, granule-found i v g slot l, vacant, frame-found i f h, host)
+      rw (lengths-hold (i .sized), lives (s .monitor) v, live, i .sized .frame-words, lt-ltb f F h, width-is (i .sized), lt-ltb g W l, granule-found i v g slot l, vacant, frame-found i f h, host)
 
-  pub does-run : (v : ℕ) → guestOf (s .monitor) v .live ≡ true → step (Run v) s .left ≡ ran v s .left
-  unfolding step runOf
-  does-run v live = rw live
+  pub does-run : (v : ℕ) → guestOf (s .monitor) v .live ≡ true → step (Run v) s .left ≡ state (s .frames) (s .map) (withGuest (s .monitor) v (markRun (guestOf (s .monitor) v)))
+  unfolding step
+  does-run v live = rw (lives (s .monitor) v, live)
 
-  pub does-remove : (v : ℕ) → guestOf (s .monitor) v .live ≡ true → step (Remove v) s .left ≡ removed v s .left
-  unfolding step removeOf
-  does-remove v live = rw (lengths-hold (i .sized), live, row-undamaged i v (live-slot (s .monitor) v live))
+  pub does-remove : (v : ℕ) → guestOf (s .monitor) v .live ≡ true → step (Remove v) s .left ≡ effected v s (removed (viewOf v s)) .left
+  unfolding step
+  does-remove v live = rw (lengths-hold (i .sized), lives (s .monitor) v, live, row-undamaged i v (live-slot (s .monitor) v live))
 
   -- VENDOR_HYP, register 2, written with 0
-  pub does-write : (v : ℕ) → guestOf (s .monitor) v .live ≡ true → guestOf (s .monitor) v .run ≡ false → step (RegisterWrite v 2 0) s .left ≡ bitmapWritten v 2 0 s .left
-  unfolding step registerWriteOf registerNumbered
-  does-write v live fresh = rw (live, fresh)
+  pub does-write : (v : ℕ) → guestOf (s .monitor) v .live ≡ true → guestOf (s .monitor) v .run ≡ false → step (RegisterWrite v 2 0) s .left
+      ≡ state (s .frames) (s .map) (withGuest (s .monitor) v (withBitmap VendorHyp 0 (guestOf (s .monitor) v)))
+  unfolding step registerNumbered
+  does-write v live fresh = rw (lives (s .monitor) v, live, fresh)
 
 -- registers of a call at granule g that asks for one granule
 abbrev pub asking : ℕ → ℕ → Registers
@@ -77,8 +80,8 @@ module _ {F W : ℕ} {s : State} (i : WordsSound F W s) (v : ℕ) (live : guestO
   slot = live-slot (s .monitor) v live
 
   pub does-enroll : step (Hypercall v (asking 0xC6000006 0)) s .left ≡ state (s .frames) (s .map) (withGuest (s .monitor) v (enroll (guestOf (s .monitor) v)))
-  unfolding step hypercallOf functionOf callRowOf actionOf actOf
-  does-enroll = rw (lengths-hold (i .sized), live, has-run)
+  unfolding step functionOf callRowOf actOf
+  does-enroll = rw (lengths-hold (i .sized), lives (s .monitor) v, live, has-run)
 
   module _ (g : ℕ) (below : g < W) where
     found : (k : _) → look W s v g ≡ k → granuleState (s .frames) v g (mapWordOf (wordAt (s .map) v g)) ≡ stateBy k
@@ -96,8 +99,8 @@ module _ {F W : ℕ} {s : State} (i : WordsSound F W s) (v : ℕ) (live : guestO
     pub does-share : (f : ℕ) → look W s v g ≡ map-word.Frame false f
         → step (Hypercall v (asking 0xC6000003 g)) s .left
         ≡ state (set (s .frames) f (frameBits (frame-word.Owned v true g))) (set (s .map) (v * W + g) (mapBits (map-word.Frame true f))) (s .monitor)
-    unfolding step hypercallOf functionOf callRowOf actionOf actOf
-    does-share f e = rw (lengths-hold (i .sized), live, has-run, base-is g, granule-address g, shares f e)
+    unfolding step functionOf callRowOf actOf
+    does-share f e = rw (lengths-hold (i .sized), lives (s .monitor) v, live, has-run, base-is g, granule-address g, shares f e)
 
     guards : look W s v g ≡ map-word.Vacant
         → tableStep guarding v (place (s .map) (s .frames) g) ≡ took (place (set (s .map) (v * W + g) (mapBits map-word.Guarded)) (s .frames) (suc g))
@@ -106,5 +109,5 @@ module _ {F W : ℕ} {s : State} (i : WordsSound F W s) (v : ℕ) (live : guestO
 
     pub does-guard : guestOf (s .monitor) v .enrolled ≡ true → look W s v g ≡ map-word.Vacant
         → step (Hypercall v (asking 0xC6000007 g)) s .left ≡ state (s .frames) (set (s .map) (v * W + g) (mapBits map-word.Guarded)) (s .monitor)
-    unfolding step hypercallOf functionOf callRowOf actionOf actOf
-    does-guard enrolled e = rw (lengths-hold (i .sized), live, has-run, base-is g, enrolled, granule-address g, guards e)
+    unfolding step functionOf callRowOf actOf
+    does-guard enrolled e = rw (lengths-hold (i .sized), lives (s .monitor) v, live, has-run, base-is g, enrolled, granule-address g, guards e)

@@ -7,12 +7,14 @@ use borrow.Author.Tests.{eq-eqb, ne-eqb}
 use lib.Dec.{eqb}
 use Rattle.words.specs.declared.map_word.MapWord.the-variants as map-word
 use Rattle.words.specs.declared.frame_word.FrameWord.the-variants as frame-word
-use Rattle.records.specs.Answer.{numbersOf}
+use Rattle.answers.specs.Answer.{numbersOf}
 use Rattle.records.specs.Monitor.{guestOf}
-use Rattle.records.specs.State.{State}
-use Rattle.records.proofs.MonitorLaws.{live-slot}
-use Rattle.host_donation.specs.Calls.{donateTests, donated, donateOf}
-use Rattle.host_frames.specs.Calls.{accessTests, clearedTests, handedBack, accessTold, clearedOf, hostAccessOf}
+use Rattle.commands.specs.State.{State}
+use Rattle.commands.specs.Command.{viewOf, effected}
+use Rattle.records.proofs.MonitorLaws.{lived}
+use Rattle.host_donation.specs.Calls.{donated}
+use Rattle.host_frames.specs.Calls.{handedBack}
+use Rattle.calls.specs.Step.{step}
 use Rattle.calls.specs.declared.call.Call.the-variants.{Donate, Cleared, Access}
 use Rattle.history.specs.Log.{FrameChange}
 use Rattle.history.specs.Log as log
@@ -22,7 +24,8 @@ use Rattle.history.proofs.SoundLaws.{granule-found, frame-found, frame-
 use Rattle.history.proofs.Tied.{Tied, tied-named, tied-apart, FrameFree}
 use Rattle.history.proofs.Moves.{pair-put, frame-put}
 use Rattle.history.proofs.Held.{ownerAfter}
-use Rattle.history.proofs.Kept.{Kept, test, sure, tests-kept}
+use Rattle.history.proofs.Kept.{Kept, test, sure, call-kept}
+use Rattle.history.proofs.StillCalls.{calm-kept}
 use Rattle.history.proofs.Looks.{hosts-word, waiting-word, vacant-word, granule-undamaged, below-frames, below-width}
 
 -- a call about one frame, which says so in the log
@@ -34,21 +37,22 @@ one-logged s t f c here there k x =
     (λ n e. rw (ne-eqb k f n) (there k n ∙ e))
 
 module _ {F W : ℕ} {s : State} (i : WordsSound F W s) where
-  pub keep-donate : (v f g : ℕ) → Kept F W s (Donate v f g) (donateOf v f g s)
-  unfolding donateOf numbersOf own
+  pub keep-donate : (v f g : ℕ) → Kept F W s (Donate v f g) (step (Donate v f g) s)
+  unfolding numbersOf own
   keep-donate v f g =
-      tests-kept i (Donate v f g) (donateTests (s .frames) (s .map) v f g (guestOf (s .monitor) v)) (donated v f g s)
+      call-kept i (Donate v f g)
       (test (sure _ (lengths-hold (i .sized))) λ a.
       test (λ q. (refl, refl)) λ live.
       test (λ q. (refl, refl)) λ hf.
       test (λ q. (refl, refl)) λ hg.
-      test (sure _ (granule-undamaged i v g (live-slot (s .monitor) v live) (below-width i g hg))) λ b.
+      test (sure _ (granule-undamaged i v g (lived v (guestOf (s .monitor) v) live .0) (below-width i g hg))) λ b.
       test (sure _ (frame-sound i f (below-frames i f hf))) λ c.
       test (λ q. (refl, refl)) λ d.
       test (λ q. (refl, refl)) λ e. tt)
       (λ p.
-      let live = p .1 .0 in
-      let slot = live-slot (s .monitor) v live in
+      let living = lived v (guestOf (s .monitor) v) (p .1 .0) in
+      let slot = living .0 in
+      let live = living .1 in
       let inside = below-frames i f (p .1 .1 .0) in
       let below = below-width i g (p .1 .1 .1 .0) in
       let host : own s f ≡ frame-word.Host = hosts-word (own s f) (rw (frame-found i f inside) at (p .1 .1 .1 .1 .1 .1 .0)) in
@@ -59,14 +63,14 @@ module _ {F W : ℕ} {s : State} (i : WordsSound F W s) where
       let put = pair-put i v g f slot below inside old d e (tied-named v g f false) live .0 in
       record {
         sound = rw (width-is (i .sized)) (put .sound);
-        logged = λ k l x q. one-logged s (donated v f g s .left) f (log.donated v g) (put .frame) (put .frames) k x q;
+        logged = λ k l x q. one-logged s (effected v s (donated f g (viewOf v s)) .left) f (log.donated v g) (put .frame) (put .frames) k x q;
         usual-verdict = refl;
       })
 
-  pub keep-cleared : (f : ℕ) → Kept F W s (Cleared f) (clearedOf f s)
-  unfolding clearedOf numbersOf
+  pub keep-cleared : (f : ℕ) → Kept F W s (Cleared f) (step (Cleared f) s)
+  unfolding numbersOf
   keep-cleared f =
-      tests-kept i (Cleared f) (clearedTests (s .frames) (s .map) f) (handedBack f s)
+      call-kept i (Cleared f)
       (test (sure _ (lengths-hold (i .sized))) λ a.
       test (λ q. (refl, refl)) λ hf.
       test (sure _ (frame-sound i f (below-frames i f hf))) λ b.
@@ -78,13 +82,13 @@ module _ {F W : ℕ} {s : State} (i : WordsSound F W s) where
       let put = frame-put i f inside free frame-word.Host tt in
       record {
         sound = put .sound;
-        logged = λ k l x q. one-logged s (handedBack f s .left) f log.cleared (put .frame) (put .frames) k x q;
+        logged = λ k l x q. one-logged s (effected 8 s (handedBack f (viewOf 8 s)) .left) f log.cleared (put .frame) (put .frames) k x q;
         usual-verdict = refl;
       })
 
-  pub keep-access : (f : ℕ) → Kept F W s (Access f) (hostAccessOf f s)
-  unfolding hostAccessOf numbersOf
+  pub keep-access : (f : ℕ) → Kept F W s (Access f) (step (Access f) s)
+  unfolding numbersOf
   keep-access f =
-      tests-kept i (Access f) (accessTests (s .frames) (s .map) f) (accessTold f s)
+      calm-kept i (Access f) (λ f n x. refl)
       (test (sure _ (lengths-hold (i .sized))) λ a. test (λ q. (refl, refl)) λ hf. test (sure _ (frame-sound i f (below-frames i f hf))) λ b. tt)
-      (λ p. record { sound = i; logged = λ k l x q. q; usual-verdict = refl })
+      (λ p. refl)

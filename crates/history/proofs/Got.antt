@@ -8,7 +8,7 @@ use native.Mathlib.Decide.{decLt}
 use native.Mathlib.Omega.{arith}
 use Rattle.runs.specs.Made.{Every}
 use Rattle.words.specs.declared.frame_word.FrameWord.{FrameWord}
-use Rattle.records.specs.State.{State}
+use Rattle.commands.specs.State.{State}
 use Rattle.calls.specs.Step.{step, stateAfter, freshState}
 use Rattle.calls.specs.declared.call.Call.{Call}
 use Rattle.history.specs.Reachable.{Fits}

@@ -1,45 +1,44 @@
 -- Hypercall and abort keep what every call keeps.
-use mathlib.Core.Path.{_≡_, refl}
+use mathlib.Core.Path.{_≡_, refl, _∙_}
 use mathlib.Core.Bool.{Bool, true, false, cond}
 use Prim.Native.Nat.{ℕ, suc, _<_, min}
 use native.Mathlib.Omega.{arith}
 use lib.Dec.{ltb}
 use lib.ListN.{length}
-use Rattle.runs.specs.Run.{run}
 use Rattle.words.specs.Granule.{granuleOf}
 use Rattle.words.proofs.Booleans.{never}
 use Rattle.tables.specs.Length.{widthOf}
 use Rattle.pairs.specs.Pair.{pairAt, granuleUndamaged}
 use Rattle.pairs.specs.declared.pairs.GranuleState.{GranuleState}
 use Rattle.pairs.specs.declared.pairs.GranuleState.the-variants as granule-state
-use Rattle.records.specs.Answer.{numbersOf}
-use Rattle.records.specs.Monitor.{guestOf, enroll}
-use Rattle.records.specs.State.{State, answered}
-use Rattle.records.specs.Tests.{firstRefusal, unlessRefused}
-use Rattle.records.specs.declared.answer.Answer.the-variants.{MmioExit, Exception}
+use Rattle.answers.specs.Answer.{numbersOf}
+use Rattle.records.specs.Monitor.{guestOf}
+use Rattle.commands.specs.State.{State}
+use Rattle.commands.specs.Command.{guestSuccess, changeRecord, viewOf, effected}
+use Rattle.records.specs.declared.change.Change.the-variants.{Enrolled}
+use Rattle.answers.specs.declared.answer.Answer.the-variants.{MmioExit, Exception}
 use Rattle.records.specs.declared.guest.Guest.{Guest}
-use Rattle.records.proofs.MonitorLaws.{live-slot}
+use Rattle.records.proofs.MonitorLaws.{live-slot, lived}
 use Rattle.granules.specs.Kind.{sharing, unsharing, guarding, unguarding, relinquishing}
 use Rattle.ranges.specs.Range.{rangeLimit}
-use Rattle.granules.specs.declared.kinds.Kind.the-variants.{Vacant, Guarded}
-use Rattle.granules.specs.declared.kinds.Change.the-variants.{Damaged}
 use Rattle.functions.specs.Function.{askedBy}
-use Rattle.functions.specs.Table.{permits, callRowOf}
-use Rattle.actions.specs.Action.{atLeastOne, actionOf}
+use Rattle.functions.specs.Rules.{permits}
+use Rattle.call_table.specs.Table.{granulesOf, callRowOf}
 use Rattle.functions.specs.declared.numbers.Function.{Function}
 use Rattle.functions.specs.declared.numbers.Function.the-variants.{Features, Uid, MemoryInfo, Share, Unshare, GuardInfo, Enroll, GuardMap, GuardUnmap, Relinquish, RangeGuardMap, RangeGuardUnmap, Unknown}
-use Rattle.functions.specs.declared.rows.Registers.{Registers}
-use Rattle.functions.specs.declared.rows.Error.the-variants.{NotSupported, InvalidParameter}
+use Rattle.call_table.specs.declared.rows.Count.the-variants.{AskedOrOne}
+use Rattle.functions.specs.declared.rules.Registers.{Registers}
+use Rattle.functions.specs.declared.rules.Error.the-variants.{NotSupported, InvalidParameter}
 use Rattle.guest_callers.specs.Callers.{callerTests}
-use Rattle.guest_hypercalls.specs.Calls.{rowTests, actOf, hypercallOf}
-use Rattle.guest_aborts.specs.Calls.{accessAnswer, unbacked, guestAccessOf, abortOf}
+use Rattle.guest_hypercalls.specs.Calls.{rowTests, actOf}
+use Rattle.guest_aborts.specs.Calls.{accessAnswer, unbacked, guestAccessOf}
+use Rattle.calls.specs.Step.{step}
 use Rattle.calls.specs.declared.call.Call.the-variants.{Hypercall, Abort}
 use Rattle.history.specs.Log.{shared, unshared, relinquished}
-use Rattle.history.proofs.Seen.{own, look, lengths-hold}
-use Rattle.history.proofs.WordsSound.{stateBy, WordsSound}
-use Rattle.history.proofs.RecordMoves.{recorded-sound}
-use Rattle.history.proofs.RecordLaws.{enroll-sound, enroll-holds}
-use Rattle.history.proofs.Kept.{usual, Kept, test, sure, refused-kept, tests-kept}
+use Rattle.history.proofs.Seen.{own, lengths-hold}
+use Rattle.history.proofs.WordsSound.{WordsSound}
+use Rattle.history.proofs.StillCalls.{still-kept, calm-kept}
+use Rattle.history.proofs.Kept.{usual, Kept, test, sure, refused-kept, call-kept, refusals-then, passes-both}
 use Rattle.history.proofs.Looks.{granule-undamaged, below-width}
 use Rattle.history.proofs.Asked.{after-asked}
 use Rattle.history.proofs.RangeCalls.{error-fine, change-kept, moved, unmoved}
@@ -50,25 +49,19 @@ module _ {F W : ℕ} {s : State} (i : WordsSound F W s) (v : ℕ) (r : Registers
 
   -- what each function does where nothing bars it
   function-kept : (asked : Function) → askedBy (r .r0) ≡ asked → permits (callRowOf asked .condition) (guestOf (s .monitor) v) ≡ true
-      → Kept F W s (Hypercall v r) (actOf v (r .r1) (callRowOf asked .error) (actionOf asked (r .r2)) s)
-  unfolding actOf actionOf callRowOf numbersOf own
-  function-kept Features is may = refused-kept i (Hypercall v r) _ (refl, refl)
-  function-kept Uid is may = refused-kept i (Hypercall v r) _ (refl, refl)
-  function-kept MemoryInfo is may = refused-kept i (Hypercall v r) _ (refl, refl)
+      → Kept F W s (Hypercall v r) (effected v s (actOf r (callRowOf asked .error) (callRowOf asked .action) (viewOf v s)))
+  unfolding actOf callRowOf numbersOf own
+  function-kept Features is may = refused-kept i (Hypercall v r) v _ (refl, refl)
+  function-kept Uid is may = refused-kept i (Hypercall v r) v _ (refl, refl)
+  function-kept MemoryInfo is may = refused-kept i (Hypercall v r) v _ (refl, refl)
   function-kept Share is may =
-      change-kept i v slot r Share is sharing InvalidParameter true (min rangeLimit (atLeastOne (r .r2))) has-run
+      change-kept i v slot r Share is sharing InvalidParameter true (min rangeLimit (granulesOf AskedOrOne (r .r2))) has-run
       (λ j l. moved i v slot r Share is sharing (suc j) (suc j) shared refl (λ u h. refl))
   function-kept Unshare is may =
-      change-kept i v slot r Unshare is unsharing InvalidParameter true (min rangeLimit (atLeastOne (r .r2))) live
+      change-kept i v slot r Unshare is unsharing InvalidParameter true (min rangeLimit (granulesOf AskedOrOne (r .r2))) live
       (λ j l. moved i v slot r Unshare is unsharing (suc j) (suc j) unshared refl (λ u h. refl))
-  function-kept GuardInfo is may = refused-kept i (Hypercall v r) _ (refl, refl)
-  function-kept Enroll is may =
-      let g = guestOf (s .monitor) v in
-      record {
-        sound = recorded-sound i v (enroll g) (enroll-sound g (i .records v slot) live has-run) (λ h l q. enroll-holds g (stateBy (look W s v h)) q);
-        logged = λ f l x h. rw (after-asked v r 0 x, is) h;
-        usual-verdict = refl;
-      }
+  function-kept GuardInfo is may = refused-kept i (Hypercall v r) v _ (refl, refl)
+  function-kept Enroll is may = still-kept i (Hypercall v r) v (changeRecord Enrolled (guestSuccess 0)) (live, has-run) (λ f x. after-asked v r 0 x ∙ rw is)
   function-kept GuardMap is may =
       change-kept i v slot r GuardMap is guarding NotSupported false (min rangeLimit 1) may (λ j l. unmoved i v slot r GuardMap is guarding (suc j) refl)
   function-kept GuardUnmap is may =
@@ -82,21 +75,24 @@ module _ {F W : ℕ} {s : State} (i : WordsSound F W s) (v : ℕ) (r : Registers
   function-kept RangeGuardUnmap is may =
       change-kept i v slot r RangeGuardUnmap is unguarding NotSupported true (min rangeLimit (r .r2)) refl
       (λ j l. unmoved i v slot r RangeGuardUnmap is unguarding (suc j) refl)
-  function-kept Unknown is may = refused-kept i (Hypercall v r) _ (refl, refl)
+  function-kept Unknown is may = refused-kept i (Hypercall v r) v _ (refl, refl)
 
 module _ {F W : ℕ} {s : State} (i : WordsSound F W s) (v : ℕ) where
-  pub keep-hypercall : (r : Registers) → Kept F W s (Hypercall v r) (hypercallOf v r s)
-  unfolding hypercallOf numbersOf
+  pub keep-hypercall : (r : Registers) → Kept F W s (Hypercall v r) (step (Hypercall v r) s)
+  unfolding numbersOf
   keep-hypercall r =
       let g = guestOf (s .monitor) v in
       let asked = askedBy (r .r0) in
       let w = callRowOf asked in
-      let act = actOf v (r .r1) (w .error) (actionOf asked (r .r2)) s in
-      tests-kept i (Hypercall v r) (callerTests (length (s .frames)) (length (s .map)) g) (unlessRefused (firstRefusal (rowTests w r g)) s act)
+      let caller = callerTests (s .frames) (s .map) v g in
+      let row = rowTests w r g in
+      call-kept i (Hypercall v r)
+      (refusals-then caller row
       (test (sure _ (lengths-hold (i .sized))) λ a. test (λ q. (refl, refl)) λ b. test (λ q. (refl, refl)) λ c. tt)
+      (λ p. test (λ q. error-fine (w .error)) λ b. test (λ q. error-fine (w .error)) λ c. tt))
       (λ p.
-      tests-kept i (Hypercall v r) (rowTests w r g) act (test (λ q. error-fine (w .error)) λ b. test (λ q. error-fine (w .error)) λ c. tt)
-      (λ q. function-kept i v r (p .1 .0) (p .1 .1 .0) asked refl (q .1 .0)))
+      let q = passes-both caller row p in
+      function-kept i v r (lived v g (q .0 .1 .0) .1) (q .0 .1 .1 .0) asked refl (q .1 .1 .0))
 
 unbacked-usual : (a : ℕ) (g : Guest) → usual (numbersOf (unbacked a g)) ≡ true
 unfolding numbersOf
@@ -125,10 +121,9 @@ module _ {F W : ℕ} {s : State} (i : WordsSound F W s) (v : ℕ) where
           (granule-undamaged i v (granuleOf a) slot (below-width i (granuleOf a) e))
       on false e = unbacked-usual a (guestOf (s .monitor) v)
 
-  pub keep-abort : (a : ℕ) → Kept F W s (Abort v a) (abortOf v a s)
-  unfolding abortOf numbersOf
+  pub keep-abort : (a : ℕ) → Kept F W s (Abort v a) (step (Abort v a) s)
+  unfolding numbersOf
   keep-abort a =
-      let g = guestOf (s .monitor) v in
-      tests-kept i (Abort v a) (callerTests (length (s .frames)) (length (s .map)) g) (answered s (guestAccessOf (s .frames) (s .map) v a g))
+      calm-kept i (Abort v a) (λ f n x. refl)
       (test (sure _ (lengths-hold (i .sized))) λ b. test (λ q. (refl, refl)) λ c. test (λ q. (refl, refl)) λ d. tt)
-      (λ p. record { sound = i; logged = λ k l x q. q; usual-verdict = access-usual a (live-slot (s .monitor) v (p .1 .0)) })
+      (λ p. access-usual a (lived v (guestOf (s .monitor) v) (p .1 .0) .0))

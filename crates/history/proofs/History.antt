@@ -18,19 +18,18 @@ use Rattle.tables.specs.Row.{wordAt, boundsOf}
 use Rattle.pairs.specs.Pair.{pairOf, granuleState, pairAt, frameState}
 use Rattle.pairs.specs.declared.pairs.FrameState.{FrameState}
 use Rattle.pairs.specs.declared.pairs.FrameState.the-variants as frame-state
-use Rattle.records.specs.Answer.{numbersOf, verdictWith}
-use Rattle.records.specs.State.{State}
-use Rattle.records.specs.Monitor.{guestOf, withGuest}
+use Rattle.answers.specs.Answer.{numbersOf, verdictWith}
+use Rattle.commands.specs.State.{State}
+use Rattle.records.specs.Monitor.{guestOf, withGuest, freeFrom}
 use Rattle.granules.specs.Kind.{changeOf}
 use Rattle.granules.specs.Step.{stepFrom}
 use Rattle.functions.specs.Function.{functionOf}
-use Rattle.functions.specs.Table.{callRowOf}
-use Rattle.actions.specs.Action.{actionOf}
+use Rattle.call_table.specs.Table.{callRowOf}
 use Rattle.guest_hypercalls.specs.Calls.{actOf, hypercallOf}
 use Rattle.rows.specs.WholeRow.{rowVacant, undamagedFrom, framesFreed, framesNamed}
 use Rattle.host_donation.specs.Calls.{donateOf}
 use Rattle.host_frames.specs.Calls.{openTo, hostAccessOf, clearedOf}
-use Rattle.host_guests.specs.Calls.{freeFrom, createOf, runOf}
+use Rattle.host_guests.specs.Calls.{createOf, runOf}
 use Rattle.host_removal.specs.Calls.{removeOf}
 use Rattle.calls.specs.Step.{step, stateAfter, freshState}
 use Rattle.calls.specs.declared.call.Call.{Call}
@@ -153,5 +152,5 @@ reachable-exactly s = (reachable-sound s, sound-reachable s)
 
 -- Worked logs: the last change that each says of a frame, and what access then answers.
 pub history-cases : map found logs ≡ map expected logs
-unfolding step createOf freeFrom donateOf runOf removeOf clearedOf hostAccessOf hypercallOf actOf functionOf callRowOf actionOf stepFrom changeOf rowVacant undamagedFrom framesFreed framesNamed boundsOf frameState pairOf granuleState pairAt mapWordOf frameWordOf mapBits frameBits numbersOf guestOf withGuest framesHold mapHolds afterHypercall
+unfolding step createOf freeFrom donateOf runOf removeOf clearedOf hostAccessOf hypercallOf actOf functionOf callRowOf stepFrom changeOf rowVacant undamagedFrom framesFreed framesNamed boundsOf frameState pairOf granuleState pairAt mapWordOf frameWordOf mapBits frameBits numbersOf guestOf withGuest framesHold mapHolds afterHypercall
 history-cases = refl

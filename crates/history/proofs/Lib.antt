@@ -13,6 +13,7 @@ pub mod Ranges
 pub mod Kept
 pub mod Looks
 pub mod FrameCalls
+pub mod StillCalls
 pub mod SlotCalls
 pub mod Asked
 pub mod Undamaged

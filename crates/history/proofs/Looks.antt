@@ -15,7 +15,7 @@ use Rattle.pairs.specs.Pair.{pairAt, granuleUndamaged}
 use Rattle.pairs.specs.declared.pairs.GranuleState.{GranuleState}
 use Rattle.pairs.specs.declared.pairs.GranuleState.the-variants as granule-state
 use Rattle.records.specs.Monitor.{guestOf}
-use Rattle.records.specs.State.{State}
+use Rattle.commands.specs.State.{State}
 use Rattle.records.specs.declared.guest.Guest.{Guest}
 use Rattle.host_donation.specs.Calls.{granuleVacant, frameHosts}
 use Rattle.host_frames.specs.Calls.{frameWaiting}

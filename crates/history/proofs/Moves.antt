@@ -17,7 +17,7 @@ use Rattle.words.proofs.MapWordLaws.{MapFits}
 use Rattle.words.proofs.FrameWordLaws.{FrameFits}
 use Rattle.words.proofs.Booleans.{never}
 use Rattle.records.specs.Monitor.{guestOf}
-use Rattle.records.specs.State.{State, state}
+use Rattle.commands.specs.State.{State, state}
 use Rattle.history.specs.Sound.{mayHold}
 use Rattle.history.proofs.Seen.{own, look, Sized, at-most, index-below, frame-built, frame-other, map-built, map-other}
 use Rattle.history.proofs.WordsSound.{stateBy, Says, SaysBack, WordsSound, changed-sound}

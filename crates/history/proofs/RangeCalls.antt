@@ -8,27 +8,28 @@ use Rattle.runs.specs.Run.{Stop, complete, refused, outOfFuel, End, ended, run}
 use Rattle.runs.proofs.Runs.{run-at-most}
 use Rattle.runs.proofs.Kept.{Holds}
 use Rattle.words.specs.Granule.{granuleOf}
-use Rattle.records.specs.Answer.{numbersOf}
+use Rattle.answers.specs.Answer.{numbersOf}
 use Rattle.records.specs.Monitor.{guestOf}
-use Rattle.records.specs.State.{State, state, answered}
+use Rattle.commands.specs.Command.{effected}
+use Rattle.commands.specs.State.{State, state}
 use Rattle.granules.specs.Kind.{bare, frameThen}
 use Rattle.granules.specs.Step.{Place, place, Refusal, isDamaged, notDone, tableStep}
 use Rattle.granules.specs.declared.kinds.Operation.{Operation}
 use Rattle.functions.specs.Function.{askedBy}
-use Rattle.functions.specs.Table.{errorAnswer}
+use Rattle.functions.specs.Rules.{errorAnswer}
 use Rattle.functions.specs.declared.numbers.Function.{Function}
-use Rattle.functions.specs.declared.rows.Registers.{Registers}
-use Rattle.functions.specs.declared.rows.Error.{Error}
-use Rattle.functions.specs.declared.rows.Error.the-variants.{NotSupported, InvalidParameter}
+use Rattle.functions.specs.declared.rules.Registers.{Registers}
+use Rattle.functions.specs.declared.rules.Error.{Error}
+use Rattle.functions.specs.declared.rules.Error.the-variants.{NotSupported, InvalidParameter}
 use Rattle.guest_hypercalls.specs.Calls.{finished}
 use Rattle.calls.specs.declared.call.Call.the-variants.{Hypercall}
 use Rattle.history.specs.Log.{FrameChange, among, changedWhere}
 use Rattle.history.proofs.Seen.{own}
 use Rattle.history.proofs.WordsSound.{WordsSound}
-use Rattle.history.proofs.Held.{ownerAfter, owner-changed, held-none}
+use Rattle.history.proofs.Held.{ownerAfter, owner-changed}
 use Rattle.history.proofs.Taken.{hasFrame}
 use Rattle.history.proofs.Ranges.{mayMake, Reached, ReachedAt, range-reached}
-use Rattle.history.proofs.Kept.{Fine, Kept, undone-log}
+use Rattle.history.proofs.Kept.{Fine, Kept, refused-kept}
 use Rattle.history.proofs.Asked.{afterFunction, after-asked}
 use Rattle.history.proofs.Undamaged.{first-refused, step-undamaged}
 
@@ -50,7 +51,7 @@ module _ {F W : ℕ} {s : State} (i : WordsSound F W s) (v : ℕ) (slot : v < 8)
 
   done-kept : (o : Operation) (e : Error) (tells : Bool) (j : ℕ) (q : Stop Refusal) (map frames : List ℕ) (next : ℕ) → Logs o tells (suc j)
       → Reached F W (s .monitor) o v s g (suc j) map frames next
-      → Kept F W s (Hypercall v r) (finished e tells (s .monitor) (ended (suc j) (place map frames next) q))
+      → Kept F W s (Hypercall v r) (effected v s (finished e tells (ended (suc j) (place map frames next) q)))
   unfolding numbersOf
   done-kept o e tells j q map frames next logs at = record {
     sound = at .sound;
@@ -60,22 +61,12 @@ module _ {F W : ℕ} {s : State} (i : WordsSound F W s) (v : ℕ) (slot : v < 8)
     usual-verdict = refl;
   }
 
-  error-kept : (o : Operation) (e : Error) (map frames : List ℕ) (next : ℕ) → Reached F W (s .monitor) o v s g 0 map frames next
-      → Kept F W s (Hypercall v r) (answered (state frames map (s .monitor)) (errorAnswer e))
-  error-kept o e map frames next at = record {
-    sound = at .sound;
-    logged = λ f l x h.
-        rw (undone-log f (Hypercall v r) (numbersOf (errorAnswer e)) x (error-fine e .0))
-        (at .owners f l ∙ held-none v g (frameThen (o .makes)) (own s f) ∙ h);
-    usual-verdict = error-fine e .1;
-  }
-
   ended-kept : (o : Operation) (e : Error) (tells : Bool) (n : ℕ) (d : End Place Refusal) → run (tableStep o v) n (place (s .map) (s .frames) g) ≡ d
       → ((j : ℕ) → suc j ≤ n → Logs o tells (suc j)) → Holds (ReachedAt F W (s .monitor) o v s g) 0 d
-      → Kept F W s (Hypercall v r) (finished e tells (s .monitor) d)
-  ended-kept o e tells n (ended zero (place map frames next) complete) is′ logs at = error-kept o e map frames next at
-  ended-kept o e tells n (ended zero (place map frames next) outOfFuel) is′ logs at = error-kept o e map frames next at
-  ended-kept o e tells n (ended zero (place map frames next) (refused notDone)) is′ logs at = error-kept o e map frames next at
+      → Kept F W s (Hypercall v r) (effected v s (finished e tells d))
+  ended-kept o e tells n (ended zero (place map frames next) complete) is′ logs at = refused-kept i (Hypercall v r) v _ (error-fine e)
+  ended-kept o e tells n (ended zero (place map frames next) outOfFuel) is′ logs at = refused-kept i (Hypercall v r) v _ (error-fine e)
+  ended-kept o e tells n (ended zero (place map frames next) (refused notDone)) is′ logs at = refused-kept i (Hypercall v r) v _ (error-fine e)
   ended-kept o e tells n (ended zero (place map frames next) (refused isDamaged)) is′ logs at =
       absurd (step-undamaged i v slot o g (first-refused (tableStep o v) n (place (s .map) (s .frames) g) (place map frames next) isDamaged is′))
   ended-kept o e tells n (ended (suc j) (place map frames next) q) is′ logs at =
@@ -84,7 +75,7 @@ module _ {F W : ℕ} {s : State} (i : WordsSound F W s) (v : ℕ) (slot : v < 8)
 
   pub change-kept : (o : Operation) (e : Error) (tells : Bool) (n : ℕ) → mayMake (guestOf (s .monitor) v) (o .makes) ≡ true
       → ((j : ℕ) → suc j ≤ n → Logs o tells (suc j))
-      → Kept F W s (Hypercall v r) (finished e tells (s .monitor) (run (tableStep o v) n (place (s .map) (s .frames) g)))
+      → Kept F W s (Hypercall v r) (effected v s (finished e tells (run (tableStep o v) n (place (s .map) (s .frames) g))))
   change-kept o e tells n may logs =
       ended-kept o e tells n (run (tableStep o v) n (place (s .map) (s .frames) g)) refl logs
       (range-reached F W (s .monitor) o v slot may (s .map) (s .frames) g n i)

@@ -19,7 +19,7 @@ use Rattle.pairs.specs.Pair.{granuleState}
 use Rattle.pairs.specs.declared.pairs.GranuleState.{GranuleState}
 use Rattle.pairs.proofs.Found.{mapWordBy, granule-says}
 use Rattle.records.specs.Monitor.{guestOf}
-use Rattle.records.specs.State.{State, state}
+use Rattle.commands.specs.State.{State, state}
 use Rattle.records.specs.declared.guest.Guest.{Guest}
 use Rattle.records.specs.declared.monitor.Monitor.{Monitor}
 use Rattle.granules.specs.Kind.{wordWith, frameThen, changeOf}

@@ -1,19 +1,20 @@
--- The records that calls make are sound, and let their guests hold what they held.
+-- The records that calls make are sound, and let their guests hold what they held. A sound record of a live guest is one that calls make.
 use mathlib.Core.Path.{_≡_, refl, sym, _∙_}
-use mathlib.Core.Bool.{true, false}
+use mathlib.Core.Bool.{Bool, true, false, cond}
 use Prim.Native.Nat.{ℕ}
+use native.Mathlib.Omega.{arith}
+use borrow.Author.Tests.{leb-true}
 use Rattle.words.proofs.Booleans.{never}
 use Rattle.runs.specs.Run.{run}
 use Rattle.pairs.specs.declared.pairs.GranuleState.{GranuleState}
 use Rattle.pairs.specs.declared.pairs.GranuleState.the-variants as granule-state
-use Rattle.records.specs.Monitor.{zeroGuest, newGuest, markRun, enroll}
+use Rattle.records.specs.Monitor.{guestWith, zeroGuest, newGuest, markRun, enroll}
 use Rattle.records.specs.declared.guest.Guest.{Guest}
-use Rattle.granules.specs.declared.kinds.Kind.the-variants.{Vacant, Guarded}
-use Rattle.granules.specs.declared.kinds.Change.the-variants.{Damaged}
 use Rattle.functions.specs.declared.numbers.Function.the-variants.{Unknown}
-use Rattle.host_registers.specs.Registers.{withinLimit, bitmapOf, withBitmap}
-use Rattle.host_registers.specs.declared.registers.FirmwareRegister.{FirmwareRegister}
-use Rattle.host_registers.specs.declared.registers.FirmwareRegister.the-variants.{Std, StdHyp, VendorHyp, Unknown}
+use Rattle.records.specs.Change.{bitmapOf, withBitmap}
+use Rattle.host_registers.specs.Registers.{withinLimit}
+use Rattle.records.specs.declared.change.FirmwareRegister.{FirmwareRegister}
+use Rattle.records.specs.declared.change.FirmwareRegister.the-variants.{Std, StdHyp, VendorHyp, Unknown}
 use Rattle.history.specs.Sound.{SoundRecord, mayHold}
 
 zero-within : (r : FirmwareRegister) → withinLimit r (bitmapOf r zeroGuest) ≡ true
@@ -116,3 +117,28 @@ enroll-holds g (granule-state.Frame true f) h = h
 enroll-holds g (granule-state.Frame false f) h = h
 enroll-holds g granule-state.Guarded h = refl
 enroll-holds g granule-state.Damaged h = h
+
+-- a new guest that has this bitmap, and then has run or not, and has enrolled or not
+abbrev pub written : ℕ → Guest
+written x = withBitmap VendorHyp x newGuest
+
+abbrev pub started : ℕ → Bool → Guest
+started x a = cond a (markRun (written x)) (written x)
+
+abbrev pub joined : ℕ → Bool → Bool → Guest
+joined x a b = cond b (enroll (started x a)) (started x a)
+
+joined-is : (x : ℕ) (a b : Bool) → joined x a b ≡ guestWith true a b 0 0 x
+joined-is x true true = refl
+joined-is x true false = refl
+joined-is x false true = refl
+joined-is x false false = refl
+
+-- a live guest is one of these
+pub record-is : (g : Guest) → g .live ≡ true → SoundRecord g → joined (g .«vendor_hyp») (g .run) (g .enrolled) ≡ g
+record-is g live k =
+    let x = g .«vendor_hyp» in
+    let std : g .std ≡ 0 = omega (arith, leb-true (g .std) 0 (k .limits Std)) in
+    let hyp : g .«std_hyp» ≡ 0 = omega (arith, leb-true (g .«std_hyp») 0 (k .limits StdHyp)) in
+    let same : guestWith true (g .run) (g .enrolled) 0 0 x ≡ guestWith (g .live) (g .run) (g .enrolled) (g .std) (g .«std_hyp») x = rw (live, std, hyp) in
+    joined-is x (g .run) (g .enrolled) ∙ same

@@ -6,7 +6,7 @@ use Prim.Native.Nat.{ℕ, _<_}
 use native.Mathlib.Omega.{arith}
 use Rattle.words.proofs.Booleans.{never}
 use Rattle.records.specs.Monitor.{guestOf, withGuest}
-use Rattle.records.specs.State.{State, state}
+use Rattle.commands.specs.State.{State, state}
 use Rattle.records.specs.declared.guest.Guest.{Guest}
 use Rattle.records.proofs.MonitorLaws.{guest-put, guest-other, guests-kept}
 use Rattle.history.specs.Sound.{SoundRecord, mayHold}

@@ -21,7 +21,7 @@ use Rattle.words.proofs.Booleans.{never}
 use Rattle.tables.specs.Row.{rowOf, withRow}
 use Rattle.tables.proofs.RowLaws.{bounds-slot, row-length, row-word}
 use Rattle.records.specs.Monitor.{zeroGuest, withGuest}
-use Rattle.records.specs.State.{State, state}
+use Rattle.commands.specs.State.{State, state}
 use Rattle.records.proofs.MonitorLaws.{guest-other, guests-kept}
 use Rattle.rows.specs.WholeRow.{vacantRow, framesFreed}
 use Rattle.history.specs.Sound.{SoundRecord}

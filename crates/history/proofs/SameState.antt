@@ -16,7 +16,7 @@ use Rattle.words.proofs.MapWordLaws.{map-encode-decode}
 use Rattle.words.proofs.FrameWordLaws.{frame-encode-decode}
 use Rattle.words.proofs.Booleans.{never}
 use Rattle.records.specs.Monitor.{zeroGuest, guestOf, withGuest}
-use Rattle.records.specs.State.{State, state}
+use Rattle.commands.specs.State.{State, state}
 use Rattle.records.specs.declared.guest.Guest.{Guest}
 use Rattle.records.specs.declared.monitor.Monitor.{Monitor}
 use Rattle.records.proofs.MonitorLaws.{put-again}

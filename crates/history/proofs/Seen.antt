@@ -18,7 +18,7 @@ use Rattle.words.proofs.FrameWordLaws.{FrameFits, frame-decode-encode}
 use Rattle.words.proofs.Booleans.{both-true}
 use Rattle.tables.specs.Length.{widthOf, framesHold, mapHolds, lengthsHold}
 use Rattle.tables.proofs.LengthLaws.{frames-at-most, width-between}
-use Rattle.records.specs.State.{State}
+use Rattle.commands.specs.State.{State}
 
 -- what the word of frame f says
 unfoldable pub own : State → ℕ → FrameWord

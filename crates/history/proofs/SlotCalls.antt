@@ -1,4 +1,4 @@
--- Create, run, remove, show and the register calls keep what every call keeps.
+-- Create and remove keep what every call keeps.
 use mathlib.Core.Path.{_≡_, refl, sym, ap, _∙_}
 use mathlib.Core.Bool.{Bool, true, false, cond}
 use mathlib.Core.List.{List, [], _∷_}
@@ -10,45 +10,28 @@ use borrow.Author.Tests.{ltb-true, eq-eqb}
 use lib.Dec.{eqb}
 use lib.ListN.{length, getD}
 use Rattle.words.specs.MapWord.{mapBits, mapWordOf}
-use Rattle.words.specs.declared.map_word.MapWord.{MapWord}
 use Rattle.words.specs.declared.map_word.MapWord.the-variants as map-word
-use Rattle.words.proofs.Booleans.{both-true}
 use Rattle.words.proofs.MapWordLaws.{map-encode-decode}
-use Rattle.tables.specs.Length.{framesHold, mapHolds}
 use Rattle.tables.specs.Row.{rowOf}
 use Rattle.pairs.specs.Pair.{granuleState, granuleUndamaged}
 use Rattle.tables.proofs.RowLaws.{row-length, row-length-none}
-use Rattle.records.specs.Answer.{numbersOf}
-use Rattle.records.specs.Monitor.{zeroGuest, newGuest, markRun, guestOf}
-use Rattle.records.specs.State.{State, answered}
-use Rattle.records.specs.Tests.{firstRefusal}
-use Rattle.records.specs.declared.answer.Answer.the-variants.{NoGuest}
+use Rattle.answers.specs.Answer.{numbersOf}
+use Rattle.records.specs.Monitor.{guestOf, freeFrom, freeSlot}
+use Rattle.commands.specs.State.{State}
 use Rattle.records.specs.declared.monitor.Monitor.{Monitor}
-use Rattle.records.proofs.MonitorLaws.{live-slot}
+use Rattle.records.proofs.MonitorLaws.{lived}
 use Rattle.rows.specs.WholeRow.{rowVacant, undamagedFrom, rowUndamaged}
-use Rattle.host_registers.specs.Registers.{registerNumbered, withBitmap, readTests, writeTests, bitmapTold, bitmapWritten, registerReadOf, registerWriteOf}
-use Rattle.host_guests.specs.Calls.{freeFrom, freeSlot, createTests, created, createOf, runTests, ran, runOf, shownUnless, showOf}
-use Rattle.host_removal.specs.Calls.{removeTests, removed, removeOf}
-use Rattle.calls.specs.declared.call.Call.the-variants.{Create, Run, Remove, Show, RegisterRead, RegisterWrite}
-use Rattle.history.specs.Sound.{mayHold}
+use Rattle.calls.specs.Step.{step}
+use Rattle.calls.specs.declared.call.Call.the-variants.{Create, Remove}
 use Rattle.history.specs.Log as log
-use Rattle.history.proofs.Seen.{own, look, lengths-hold, width-is}
-use Rattle.history.proofs.WordsSound.{stateBy, WordsSound}
+use Rattle.history.proofs.Seen.{look, lengths-hold, width-is}
+use Rattle.history.proofs.WordsSound.{WordsSound}
 use Rattle.history.proofs.SoundLaws.{pair-seen}
-use Rattle.history.proofs.RecordMoves.{recorded-sound}
-use Rattle.history.proofs.RecordLaws.{new-sound, run-sound, run-holds, bitmap-flags, flags-hold, bitmap-sound}
 use Rattle.history.proofs.Removal.{ownerGone, says-row, owners-gone, gone-sound}
 use Rattle.history.proofs.Held.{owner-changed}
-use Rattle.history.proofs.Kept.{usual, Kept, test, sure, tests-kept}
+use Rattle.history.proofs.Kept.{Kept, test, sure, call-kept}
+use Rattle.history.proofs.StillCalls.{dead-row, calm-kept}
 use Rattle.history.proofs.Looks.{granule-undamaged}
-
--- a record that is not a guest's lets a granule hold nothing
-dead-vacant : (d : MapWord) → mayHold zeroGuest (stateBy d) ≡ true → d ≡ map-word.Vacant
-dead-vacant map-word.Vacant h = refl
-dead-vacant (map-word.Frame true f) h = cc
-dead-vacant (map-word.Frame false f) h = cc
-dead-vacant map-word.Guarded h = cc
-dead-vacant map-word.Damaged h = cc
 
 -- a free slot is not live
 free-dead : (m : Monitor) (n v : ℕ) → freeFrom m v n < v + n → guestOf m (freeFrom m v n) .live ≡ false
@@ -75,11 +58,6 @@ undamaged-all frames v g (w ∷ ws) h =
     let first : granuleUndamaged (granuleState frames v g (mapWordOf w)) ≡ true = rw add-zero at (h 0 (omega arith)) in
     rw first (undamaged-all frames v (suc g) ws (λ k l. rw (suc-add, ← (add-suc g k)) (h (suc k) (omega arith))))
 
-shown-usual : (live : Bool) (row : List ℕ) → usual (numbersOf (shownUnless (firstRefusal ((live, NoGuest) ∷ [])) row .answer)) ≡ true
-unfolding numbersOf
-shown-usual true row = refl
-shown-usual false row = refl
-
 module _ {F W : ℕ} {s : State} (i : WordsSound F W s) where
   -- the words of a row
   row-seen : (v g : ℕ) → v < 8 → g < length (rowOf (s .map) v) → (g < W) × (mapWordOf (getD (rowOf (s .map) v) g 0) ≡ look W s v g)
@@ -88,16 +66,13 @@ module _ {F W : ℕ} {s : State} (i : WordsSound F W s) where
       (below, says-row i v h g below)
 
   -- a slot that is not live has a vacant row, and one that is not there has none
-  pub dead-row : (v g : ℕ) → v < 8 → g < W → guestOf (s .monitor) v .live ≡ false → look W s v g ≡ map-word.Vacant
-  dead-row v g h l e = dead-vacant (look W s v g) (rw (i .records v h .dead e) at (i .holds v g h l))
-
   pub free-row : (v : ℕ) → (v < 8 → guestOf (s .monitor) v .live ≡ false) → rowVacant (rowOf (s .map) v) ≡ true
   free-row v dead = vacant-all (rowOf (s .map) v) (λ g l. on g l (decLt v 8))
     where
       on : (g : ℕ) → g < length (rowOf (s .map) v) → Dec (v < 8) → getD (rowOf (s .map) v) g 0 ≡ mapBits map-word.Vacant
       on g l (yes h) =
           let p = row-seen v g h l in
-          let vacant = p .1 ∙ dead-row v g h (p .0) (dead h) in
+          let vacant = p .1 ∙ dead-row i v g h (p .0) (dead h) in
           sym (map-encode-decode (getD (rowOf (s .map) v) g 0) (λ q. let z : _≡_ {A = ℕ} 0 1 = cc in omega arith)) ∙ ap mapBits vacant
       on g l (no n) = absurd (omega (arith, row-length-none (s .map) v (omega arith)))
 
@@ -107,39 +82,23 @@ module _ {F W : ℕ} {s : State} (i : WordsSound F W s) where
       let p = row-seen v g h l in
       rw (zero-add, p .1, ← (pair-seen (i .sized) v g h (p .0))) (granule-undamaged i v g h (p .0)))
 
-  pub keep-create : Kept F W s Create (createOf s)
-  unfolding createOf numbersOf own
+  pub keep-create : Kept F W s Create (step Create s)
+  unfolding numbersOf
   keep-create =
       let v = freeSlot (s .monitor) in
       let dead : v < 8 → guestOf (s .monitor) v .live ≡ false = λ h. free-dead (s .monitor) 8 0 (omega arith) in
-      tests-kept i Create (createTests (s .frames) (s .map) v) (created v s)
+      calm-kept i Create (λ f n x. refl)
       (test (sure _ (lengths-hold (i .sized))) λ a. test (sure _ (free-row v dead)) λ b. test (λ q. (refl, refl)) λ c. tt)
-      (λ p.
-      let h = ltb-true v 8 (p .1 .1 .0) in
-      record {
-        sound = recorded-sound i v newGuest new-sound (λ g l q. rw (dead-row v g h l (dead h)));
-        logged = λ k l x q. q;
-        usual-verdict = refl;
-      })
+      (λ p. let h = ltb-true v 8 (p .1 .1 .0) in (h, dead h))
 
-  pub keep-run : (v : ℕ) → Kept F W s (Run v) (runOf v s)
-  unfolding runOf numbersOf own
-  keep-run v =
-      let g = guestOf (s .monitor) v in
-      tests-kept i (Run v) (runTests g) (ran v s) (test (λ q. (refl, refl)) λ a. tt)
-      (λ p. record {
-        sound = recorded-sound i v (markRun g) (run-sound g (i .records v (live-slot (s .monitor) v (p .0))) (p .0)) (λ h l q. run-holds g (stateBy (look W s v h)) q);
-        logged = λ k l x q. q;
-        usual-verdict = refl;
-      })
-
-  pub keep-remove : (v : ℕ) → Kept F W s (Remove v) (removeOf v s)
-  unfolding removeOf numbersOf
+  pub keep-remove : (v : ℕ) → Kept F W s (Remove v) (step (Remove v) s)
+  unfolding numbersOf
   keep-remove v =
-      tests-kept i (Remove v) (removeTests (s .frames) (s .map) v (guestOf (s .monitor) v)) (removed v s)
-      (test (sure _ (lengths-hold (i .sized))) λ a. test (λ q. (refl, refl)) λ live. test (sure _ (row-undamaged v (live-slot (s .monitor) v live))) λ b. tt)
+      let g = guestOf (s .monitor) v in
+      call-kept i (Remove v)
+      (test (sure _ (lengths-hold (i .sized))) λ a. test (λ q. (refl, refl)) λ live. test (sure _ (row-undamaged v (lived v g live .0))) λ b. tt)
       (λ p.
-      let slot = live-slot (s .monitor) v (p .1 .0) in
+      let slot = lived v g (p .1 .0) .0 in
       record {
         sound = gone-sound i v slot;
         logged = λ k l x q.
@@ -147,35 +106,3 @@ module _ {F W : ℕ} {s : State} (i : WordsSound F W s) where
             ∙ sym (owner-changed (λ u h. eqb u v) (λ u h. log.ownerRemoved) x);
         usual-verdict = refl;
       })
-
-  pub keep-read : (v n : ℕ) → Kept F W s (RegisterRead v n) (registerReadOf v n s)
-  unfolding registerReadOf numbersOf
-  keep-read v n =
-      tests-kept i (RegisterRead v n) (readTests (guestOf (s .monitor) v) (registerNumbered n)) (bitmapTold v n s)
-      (test (λ q. (refl, refl)) λ a. test (λ q. (refl, refl)) λ b. tt)
-      (λ p. record { sound = i; logged = λ k l x q. q; usual-verdict = refl })
-
-  pub keep-write : (v n y : ℕ) → Kept F W s (RegisterWrite v n y) (registerWriteOf v n y s)
-  unfolding registerWriteOf numbersOf own
-  keep-write v n y =
-      let g = guestOf (s .monitor) v in
-      let r = registerNumbered n in
-      tests-kept i (RegisterWrite v n y) (writeTests g r y) (bitmapWritten v n y s)
-      (test (λ q. (refl, refl)) λ a. test (λ q. (refl, refl)) λ b. test (λ q. (refl, refl)) λ c. test (λ q. (refl, refl)) λ d. tt)
-      (λ p. record {
-        sound =
-            recorded-sound i v (withBitmap r y g) (bitmap-sound r y g (i .records v (live-slot (s .monitor) v (p .0))) (p .0) (p .1 .1 .0))
-            (λ h l q. flags-hold g (withBitmap r y g) (bitmap-flags r y g) (stateBy (look W s v h)) q);
-        logged = λ k l x q. q;
-        usual-verdict = refl;
-      })
-
-  -- show hands back a part of the map table and leaves all as it was
-  show-usual : (v : ℕ) → usual (numbersOf (showOf v (s .monitor) (s .map) .answer)) ≡ true
-  unfolding showOf
-  show-usual v =
-      let n = length (s .map) in
-      rw (both-true (framesHold (length (s .frames))) (mapHolds n) (lengths-hold (i .sized)) .1) (shown-usual (guestOf (s .monitor) v .live) (rowOf (s .map) v))
-
-  pub keep-show : (v : ℕ) → Kept F W s (Show v) (answered s (showOf v (s .monitor) (s .map) .answer))
-  keep-show v = record { sound = i; logged = λ k l x q. q; usual-verdict = show-usual v }

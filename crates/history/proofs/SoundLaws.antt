@@ -20,7 +20,7 @@ use Rattle.pairs.specs.declared.pairs.FrameState.{FrameState}
 use Rattle.pairs.specs.declared.pairs.FrameState.the-variants as frame-state
 use Rattle.pairs.proofs.Found.{granule-names, frame-names}
 use Rattle.records.specs.Monitor.{guestOf}
-use Rattle.records.specs.State.{State}
+use Rattle.commands.specs.State.{State}
 use Rattle.records.specs.declared.guest.Guest.{Guest}
 use Rattle.history.specs.Sound.{mayHold, Sound}
 use Rattle.history.proofs.Seen.{own, look, Sized, lengths-hold, width-is}

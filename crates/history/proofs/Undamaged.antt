@@ -16,7 +16,7 @@ use Rattle.tables.specs.Row.{wordIndex, wordAt}
 use Rattle.pairs.specs.Pair.{granuleState, pairAt, granuleUndamaged}
 use Rattle.pairs.specs.declared.pairs.GranuleState.{GranuleState}
 use Rattle.pairs.specs.declared.pairs.GranuleState.the-variants as granule-state
-use Rattle.records.specs.State.{State}
+use Rattle.commands.specs.State.{State}
 use Rattle.granules.specs.Kind.{isOf, bare, changeOf}
 use Rattle.granules.specs.Step.{Place, place, Refusal, isDamaged, notDone, written, stepFrom, tableStep}
 use Rattle.granules.specs.declared.kinds.Kind.{Kind}

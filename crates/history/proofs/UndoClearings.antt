@@ -14,12 +14,12 @@ use Rattle.words.specs.declared.frame_word.FrameWord.the-variants as frame-word
 use Rattle.words.proofs.Booleans.{both-true}
 use Rattle.tables.specs.Length.{framesHold, mapHolds, lengthsHold}
 use Rattle.tables.proofs.LengthLaws.{width-between}
-use Rattle.records.specs.Monitor.{zeroGuest, newGuest, guestOf, withGuest}
-use Rattle.records.specs.State.{State, state}
+use Rattle.records.specs.Monitor.{zeroGuest, newGuest, guestOf, withGuest, freeFrom, freeSlot}
+use Rattle.commands.specs.State.{State, state}
+use Rattle.commands.specs.Command.{viewOf, effected}
 use Rattle.records.specs.declared.guest.Guest.{Guest}
 use Rattle.records.proofs.MonitorLaws.{guest-put, guest-fresh}
 use Rattle.host_frames.specs.Calls.{frameWaiting}
-use Rattle.host_guests.specs.Calls.{freeFrom, freeSlot}
 use Rattle.host_removal.specs.Calls.{removed}
 use Rattle.calls.specs.declared.call.Call.the-variants.{Create, Donate, Remove}
 use Rattle.history.proofs.Seen.{own, look, width-is, at-or-not, at-most}
@@ -115,7 +115,7 @@ module _ (F W : ℕ) where
     first-dead : guestOf (s .monitor) 0 ≡ zeroGuest
     first-dead = dead 0 (omega arith)
 
-    gone-state : removed 0 given .left ≡ s
+    gone-state : effected 0 given (removed (viewOf 0 given)) .left ≡ s
     gone-state =
         removal-leaves i 0 (omega arith) first-dead (given-put .0 .sound)
         (λ f l.

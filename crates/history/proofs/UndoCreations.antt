@@ -6,12 +6,11 @@ use native.Mathlib.Decide.{decLt}
 use native.Mathlib.Omega.{arith}
 use Rattle.words.specs.declared.map_word.MapWord.the-variants as map-word
 use Rattle.tables.specs.Length.{lengthsHold}
-use Rattle.records.specs.Monitor.{zeroGuest, newGuest, guestOf, withGuest}
-use Rattle.records.specs.State.{State, state}
+use Rattle.records.specs.Monitor.{zeroGuest, newGuest, guestOf, withGuest, freeFrom, freeSlot}
+use Rattle.commands.specs.State.{State, state}
 use Rattle.records.specs.declared.guest.Guest.{Guest}
 use Rattle.records.specs.declared.monitor.Monitor.{Monitor}
 use Rattle.records.proofs.MonitorLaws.{guest-put, guest-other}
-use Rattle.host_guests.specs.Calls.{freeFrom, freeSlot}
 use Rattle.calls.specs.declared.call.Call.the-variants.{Create}
 use Rattle.history.proofs.Seen.{look, at-or-not}
 use Rattle.history.proofs.WordsSound.{WordsSound}

@@ -1,7 +1,7 @@
 -- Every sound state without shared and guarded granules is got: each slot's guest was new, then had its bitmap written, ran and enrolled, or
 -- was removed.
 use mathlib.Core.Path.{_≡_, refl, ap, _∙_}
-use mathlib.Core.Bool.{Bool, true, false, cond}
+use mathlib.Core.Bool.{Bool, true, false}
 use Prim.Native.Nat.{ℕ, zero, suc, _*_, _<_, _≤_}
 use native.Mathlib.Omega.{arith}
 use borrow.Author.Tests.{leb-true, le-leb}
@@ -10,18 +10,20 @@ use Rattle.words.specs.declared.map_word.MapWord.the-variants as map-word
 use Rattle.words.proofs.Booleans.{never}
 use Rattle.tables.specs.Length.{lengthsHold}
 use Rattle.records.specs.Monitor.{zeroGuest, newGuest, markRun, enroll, guestOf, withGuest}
-use Rattle.records.specs.State.{State, state}
+use Rattle.commands.specs.State.{State, state}
+use Rattle.commands.specs.Command.{viewOf, effected}
 use Rattle.records.specs.declared.guest.Guest.{Guest}
 use Rattle.records.proofs.MonitorLaws.{guest-put, guest-other, put-again}
-use Rattle.host_registers.specs.Registers.{registerNumbered, withBitmap}
-use Rattle.host_registers.specs.declared.registers.FirmwareRegister.the-variants.{Std, StdHyp, VendorHyp}
+use Rattle.records.specs.Change.{withBitmap}
+use Rattle.host_registers.specs.Registers.{registerNumbered}
+use Rattle.records.specs.declared.change.FirmwareRegister.the-variants.{VendorHyp}
 use Rattle.host_removal.specs.Calls.{removed}
 use Rattle.calls.specs.declared.call.Call.the-variants.{Run, Remove, RegisterWrite, Hypercall}
 use Rattle.history.specs.Sound.{SoundRecord, mayHold}
 use Rattle.history.proofs.Seen.{own, look, at-or-not}
 use Rattle.history.proofs.WordsSound.{stateBy, WordsSound}
 use Rattle.history.proofs.RecordMoves.{recorded-sound}
-use Rattle.history.proofs.RecordLaws.{new-sound, run-sound, bitmap-sound}
+use Rattle.history.proofs.RecordLaws.{new-sound, run-sound, bitmap-sound, written, started, joined, record-is}
 use Rattle.history.proofs.SameState.{guest-same, guest-back}
 use Rattle.history.proofs.Does.{asking, asking-fits, does-run, does-remove, does-write, does-enroll}
 use Rattle.history.proofs.Got.{Got, got-next}
@@ -35,34 +37,6 @@ plain-held g (map-word.Frame true f) live h = never h
 plain-held g (map-word.Frame false f) live h = live
 plain-held g map-word.Guarded live h = never h
 plain-held g map-word.Damaged live h = never h
-
--- a new guest that has this bitmap, and then has run or not, and has enrolled or not
-abbrev written : ℕ → Guest
-written x = withBitmap VendorHyp x newGuest
-
-abbrev started : ℕ → Bool → Guest
-started x a = cond a (markRun (written x)) (written x)
-
-abbrev joined : ℕ → Bool → Bool → Guest
-joined x a b = cond b (enroll (started x a)) (started x a)
-
-abbrev fields : Bool → Bool → Bool → ℕ → ℕ → ℕ → Guest
-fields l a b x y z = record { live = l; run = a; enrolled = b; std = x; «std_hyp» = y; «vendor_hyp» = z }
-
-joined-is : (x : ℕ) (a b : Bool) → joined x a b ≡ fields true a b 0 0 x
-joined-is x true true = refl
-joined-is x true false = refl
-joined-is x false true = refl
-joined-is x false false = refl
-
--- a live guest is one of these
-record-is : (g : Guest) → g .live ≡ true → SoundRecord g → joined (g .«vendor_hyp») (g .run) (g .enrolled) ≡ g
-record-is g live k =
-    let x = g .«vendor_hyp» in
-    let std : g .std ≡ 0 = omega (arith, leb-true (g .std) 0 (k .limits Std)) in
-    let hyp : g .«std_hyp» ≡ 0 = omega (arith, leb-true (g .«std_hyp») 0 (k .limits StdHyp)) in
-    let same : fields true (g .run) (g .enrolled) 0 0 x ≡ fields (g .live) (g .run) (g .enrolled) (g .std) (g .«std_hyp») x = rw (live, std, hyp) in
-    joined-is x (g .run) (g .enrolled) ∙ same
 
 -- the rows hold what new guests may hold
 abbrev pub Plain : ℕ → State → Type 0
@@ -124,7 +98,7 @@ module _ (F W : ℕ) (s : State) (i : WordsSound F W s) (plain : Plain W s) (n :
     none : guestOf (s .monitor) n ≡ zeroGuest
     none = i .records n slot .dead dead
 
-    removed-is : removed n (having newGuest) .left ≡ s
+    removed-is : effected n (having newGuest) (removed (viewOf n (having newGuest))) .left ≡ s
     unfolding own look
     removed-is =
         removal-leaves i n slot none (having-sound newGuest new-sound refl) (λ f h. owners-stay i n slot none f h) (λ u g h m. refl)

@@ -9,14 +9,15 @@ use Rattle.words.specs.declared.map_word.MapWord.the-variants as map-word
 use Rattle.words.specs.declared.frame_word.FrameWord.{FrameWord}
 use Rattle.words.specs.declared.frame_word.FrameWord.the-variants as frame-word
 use Rattle.records.specs.Monitor.{zeroGuest, guestOf, withGuest}
-use Rattle.records.specs.State.{State}
+use Rattle.commands.specs.State.{State}
+use Rattle.commands.specs.Command.{viewOf, effected}
 use Rattle.records.specs.declared.guest.Guest.{Guest}
 use Rattle.records.specs.declared.monitor.Monitor.{Monitor}
 use Rattle.host_removal.specs.Calls.{removed}
 use Rattle.history.proofs.Seen.{own, look, at-or-not}
 use Rattle.history.proofs.WordsSound.{WordsSound}
 use Rattle.history.proofs.Removal.{ownerGone, owners-gone, look-gone, look-there, gone-sound}
-use Rattle.history.proofs.SlotCalls.{dead-row}
+use Rattle.history.proofs.StillCalls.{dead-row}
 use Rattle.history.proofs.SameState.{same-state}
 
 module _ {F W : ℕ} {s : State} (i : WordsSound F W s) (v : ℕ) (slot : v < 8) (dead : guestOf (s .monitor) v ≡ zeroGuest) where
@@ -42,11 +43,11 @@ module _ {F W : ℕ} {s : State} (i : WordsSound F W s) (v : ℕ) (slot : v < 8)
 
   module _ {t : State} (j : WordsSound F W t) where
     pub removal-leaves : ((f : ℕ) → f < F → ownerGone v (own t f) ≡ own s f) → ((u g : ℕ) → g < W → u ≢ v → look W t u g ≡ look W s u g)
-        → withGuest (t .monitor) v zeroGuest ≡ s .monitor → removed v t .left ≡ s
+        → withGuest (t .monitor) v zeroGuest ≡ s .monitor → effected v t (removed (viewOf v t)) .left ≡ s
     removal-leaves owners granules records =
         same-state (gone-sound j v slot) i
         (λ f h. owners-gone j v slot f h ∙ owners f h)
-        (λ u g h l. at-or-not (λ w. look W (removed v t .left) w g ≡ look W s w g) v u
+        (λ u g h l. at-or-not (λ w. look W (effected v t (removed (viewOf v t)) .left) w g ≡ look W s w g) v u
         (look-gone j v slot g l ∙ sym (row-vacant g l))
         (λ n. look-there j v slot u g l n ∙ granules u g l n))
         (λ u h. ap (λ (x : Monitor). guestOf x u) records)

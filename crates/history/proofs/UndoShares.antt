@@ -12,7 +12,7 @@ use Rattle.words.specs.declared.frame_word.FrameWord.the-variants as frame-word
 use Rattle.words.proofs.Booleans.{never}
 use Rattle.tables.specs.Length.{lengthsHold}
 use Rattle.records.specs.Monitor.{guestOf}
-use Rattle.records.specs.State.{State, state}
+use Rattle.commands.specs.State.{State, state}
 use Rattle.calls.specs.declared.call.Call.the-variants.{Hypercall}
 use Rattle.history.proofs.Seen.{own, at-most}
 use Rattle.history.proofs.WordsSound.{Says, WordsSound}

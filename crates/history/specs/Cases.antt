@@ -1,9 +1,9 @@
 -- Worked logs: what calls from fresh tables of 256 frames and 64 granules a slot come to, for one frame.
 use mathlib.Core.List.{List, [], _∷_, _++_}
 use Prim.Native.Nat.{ℕ, _*_}
-use Rattle.records.specs.Answer.{numbersOf, verdictWith}
-use Rattle.records.specs.declared.answer.Numbers.{Numbers}
-use Rattle.functions.specs.Table.{registers}
+use Rattle.answers.specs.Answer.{numbersOf, verdictWith}
+use Rattle.answers.specs.declared.answer.Numbers.{Numbers}
+use Rattle.functions.specs.Rules.{registers}
 use Rattle.calls.specs.Step.{step, stateAfter, freshState}
 use Rattle.calls.specs.declared.call.Call.{Call}
 use Rattle.calls.specs.declared.call.Call.the-variants.{Create, Donate, Run, Remove, Cleared, Access, Hypercall}

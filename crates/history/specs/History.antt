@@ -3,8 +3,8 @@ use mathlib.Core.Bool.{Bool, true, false, not}
 use mathlib.Core.List.{List, [], _∷_}
 use Rattle.pairs.specs.declared.pairs.FrameState.{FrameState}
 use Rattle.pairs.specs.declared.pairs.FrameState.the-variants as frame-state
-use Rattle.records.specs.Answer.{numbersOf}
-use Rattle.records.specs.State.{State}
+use Rattle.answers.specs.Answer.{numbersOf}
+use Rattle.commands.specs.State.{State}
 use Rattle.calls.specs.Step.{step}
 use Rattle.calls.specs.declared.call.Call.{Call}
 use Rattle.history.specs.Log.{Entry}

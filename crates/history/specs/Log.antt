@@ -5,10 +5,10 @@ use mathlib.Core.List.{List, [], _∷_}
 use Prim.Native.Nat.{ℕ, _+_, _%_, _^_}
 use lib.Dec.{eqb, leb, ltb}
 use Rattle.words.specs.Granule.{granuleOf}
-use Rattle.records.specs.declared.answer.Numbers.{Numbers}
-use Rattle.functions.specs.declared.rows.Registers.{Registers}
+use Rattle.answers.specs.declared.answer.Numbers.{Numbers}
+use Rattle.functions.specs.declared.rules.Registers.{Registers}
 use Rattle.calls.specs.declared.call.Call.{Call}
-use Rattle.calls.specs.declared.call.Call.the-variants.{Create, Donate, Run, Remove, Cleared, Access, Show, RegisterRead, RegisterWrite, Hypercall, Abort}
+use Rattle.calls.specs.Step.{FrameEvent, donation, removal, clearing, guestCall, otherEvent, frameEvent}
 
 -- a call, and its answer as the five numbers
 pub record Entry : Type 0 where
@@ -69,18 +69,15 @@ afterHypercall v r n c =
     c))
 
 -- what one call with its answer makes of frame f, to which the last change was c
+abbrev pub afterEvent : ℕ → FrameEvent → Numbers → FrameChange → FrameChange
+afterEvent f (donation v d g) n c = cond (hostDone n && eqb f d) (donated v g) c
+afterEvent f (removal v) n c = cond (hostDone n) (changedWhere (λ u h. eqb u v) (λ u h. ownerRemoved) c) c
+afterEvent f (clearing d) n c = cond (hostDone n && eqb f d) cleared c
+afterEvent f (guestCall v r) n c = cond (guestDone n) (afterHypercall v r (n .v1) c) c
+afterEvent f otherEvent n c = c
+
 abbrev pub afterCall : ℕ → Call → Numbers → FrameChange → FrameChange
-afterCall f (Donate v d g) n c = cond (hostDone n && eqb f d) (donated v g) c
-afterCall f (Remove v) n c = cond (hostDone n) (changedWhere (λ u h. eqb u v) (λ u h. ownerRemoved) c) c
-afterCall f (Cleared d) n c = cond (hostDone n && eqb f d) cleared c
-afterCall f (Hypercall v r) n c = cond (guestDone n) (afterHypercall v r (n .v1) c) c
-afterCall f Create n c = c
-afterCall f (Run v) n c = c
-afterCall f (Access d) n c = c
-afterCall f (Show v) n c = c
-afterCall f (RegisterRead v k) n c = c
-afterCall f (RegisterWrite v k x) n c = c
-afterCall f (Abort v a) n c = c
+afterCall f c n x = afterEvent f (frameEvent c) n x
 
 -- the oldest entry stands first
 abbrev pub lastFrom : ℕ → FrameChange → List Entry → FrameChange

@@ -9,10 +9,11 @@ use Rattle.pairs.specs.Pair.{pairAt, pairOf, frameUndamaged}
 use Rattle.pairs.specs.declared.pairs.GranuleState.{GranuleState}
 use Rattle.pairs.specs.declared.pairs.GranuleState.the-variants.{Vacant, Frame, Guarded, Damaged}
 use Rattle.records.specs.Monitor.{zeroGuest, guestOf}
-use Rattle.records.specs.State.{State}
+use Rattle.commands.specs.State.{State}
 use Rattle.records.specs.declared.guest.Guest.{Guest}
-use Rattle.host_registers.specs.Registers.{bitmapOf, withinLimit}
-use Rattle.host_registers.specs.declared.registers.FirmwareRegister.{FirmwareRegister}
+use Rattle.records.specs.Change.{bitmapOf}
+use Rattle.host_registers.specs.Registers.{withinLimit}
+use Rattle.records.specs.declared.change.FirmwareRegister.{FirmwareRegister}
 
 -- "A dead slot's record is all zero in any history"; every bitmap is within its limit; only a guest that has run can have enrolled
 pub record SoundRecord (g : Guest) : Type 0 where

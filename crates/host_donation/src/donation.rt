@@ -1,18 +1,20 @@
 ghost use mathlib.Core.Path.{_≡_};
-ghost use Rattle.records.specs.State.{state, answered};
-ghost use Rattle.records.specs.Tests.{firstRefusal, refusalBy};
-ghost use Rattle.host_donation.specs.Calls.{donateTests, donateOf};
+ghost use Rattle.commands.specs.State.{state, answered};
+ghost use Rattle.commands.specs.Tests.{firstRefusal, refusalBy};
+ghost use Rattle.commands.specs.Command.{view, testsOf, result, resultOf};
+ghost use Rattle.host_donation.specs.Calls.{donateCommand, donateOf};
 use crate::states::frame_hosts;
 use crate::states::frame_undamaged;
 use crate::states::granule_undamaged;
 use crate::states::granule_vacant;
+use answers::Answer;
+use commands::Admission;
+use commands::Decision;
+use commands::Reply;
 use pairs::pair_at;
 use pairs::pair_of;
-use records::Admission;
-use records::Answer;
 use records::Guest;
 use records::Monitor;
-use records::Reply;
 use tables::lengths_hold;
 use tables::row_bounds;
 use tables::row_width;
@@ -33,8 +35,24 @@ pub fn donate(
         ≡ donateOf slot frame granule (state (now (frames .entry)) (now (map .entry)) monitor) ⌝ }
 {
     let guest = monitor.guest(slot);
+    let decision = decide_donate(guest, frames, map, slot, frame, granule);
+    decision.reply(monitor, slot)
+}
+
+// What donate decides by the record of its slot, any record where the slot is above 7. The tables it changes.
+pub fn decide_donate(
+    guest: Guest,
+    frames: &mut [u32],
+    map: &mut [u32],
+    slot: u64,
+    frame: u64,
+    granule: u64,
+) -> Decision
+    ensures { λ r. ⌜ result (now (frames .exit)) (now (map .exit)) r
+        ≡ resultOf (donateCommand slot frame granule) (view (now (frames .entry)) (now (map .entry)) slot guest) ⌝ }
+{
     match donate_admission(frames, map, slot, frame, granule, guest) {
-        Admission::Refused(answer) => Reply { monitor, answer },
+        Admission::Refused(answer) => Decision::keep(answer),
         Admission::Passed => {
             let bounds = row_bounds(map.len(), slot);
             let number = granule as usize;
@@ -42,10 +60,7 @@ pub fn donate(
             let given = frame as usize;
             map[index] = MapWord::of_frame(false, given);
             frames[given] = FrameWord::of_owner(slot as usize, false, number);
-            Reply {
-                monitor,
-                answer: Answer::Done(0),
-            }
+            Decision::keep(Answer::Done(0))
         }
     }
 }
@@ -59,13 +74,13 @@ fn donate_admission(
     granule: u64,
     guest: Guest,
 ) -> Admission
-    ensures { λ r. ⌜ refusalBy r ≡ firstRefusal (donateTests (now (frames .entry)) (now (map .entry)) slot frame granule guest) ⌝ }
+    ensures { λ r. ⌜ refusalBy r ≡ firstRefusal (testsOf (donateCommand slot frame granule) (view (now (frames .entry)) (now (map .entry)) slot guest)) ⌝ }
 {
     let here = pair_at(map, frames, slot, Granule(granule));
     let there = pair_of(map, frames, frame);
     Admission::Passed
         .check(lengths_hold(frames.len(), map.len()), Answer::BadLength)
-        .check(guest.live, Answer::NoGuest)
+        .check(guest.lives_in(slot), Answer::NoGuest)
         .check((frame as usize) < frames.len(), Answer::OutOfRange)
         .check(
             (granule as usize) < row_width(map.len()),

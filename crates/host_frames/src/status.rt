@@ -1,12 +1,18 @@
 ghost use mathlib.Core.Path.{_≡_};
-ghost use Rattle.records.specs.State.{state, answered};
-ghost use Rattle.records.specs.Tests.{firstRefusal, refusalBy};
+ghost use mathlib.Core.List.{_++_};
+ghost use Prim.Native.Nat.{ℕ};
+ghost use lib.ListN.{length};
+ghost use Rattle.commands.specs.State.{state, answered};
+ghost use Rattle.commands.specs.Tests.{firstRefusal, refusalBy};
+ghost use Rattle.commands.specs.Command.{view, bothTables, lengthTests, result, resultOf};
+ghost use Rattle.records.specs.declared.guest.Guest.{Guest};
 ghost use Rattle.records.specs.declared.monitor.Monitor.{Monitor};
-ghost use Rattle.host_frames.specs.Calls.{rangeTests, clearedOf, hostAccessOf};
+ghost use Rattle.host_frames.specs.Calls.{rangeTests, clearedCommand, clearedOf, accessCommand, hostAccessOf};
+use answers::Answer;
+use commands::Admission;
+use commands::Decision;
 use pairs::FrameState;
 use pairs::pair_of;
-use records::Admission;
-use records::Answer;
 use tables::lengths_hold;
 use words::FrameWord;
 
@@ -15,20 +21,28 @@ pub fn cleared(frames: &mut [u32], map: &[u32], frame: u64) -> Answer
     ensures { λ r. ⌜ ((records : Monitor) → answered (state (now (frames .exit)) (now (map .entry)) records) r
         ≡ clearedOf frame (state (now (frames .entry)) (now (map .entry)) records)) ⌝ }
 {
-    match range_admission(frames.len(), map.len(), frame) {
-        Admission::Refused(answer) => answer,
+    decide_cleared(frames, map, frame).answer
+}
+
+// What cleared decides. It has no slot and looks at no record, so the equation holds with any. The frame table it changes.
+pub fn decide_cleared(frames: &mut [u32], map: &[u32], frame: u64) -> Decision
+    ensures { λ r. ⌜ ((slot : ℕ) (guest : Guest) → result (now (frames .exit)) (now (map .entry)) r
+        ≡ resultOf (clearedCommand frame) (view (now (frames .entry)) (now (map .entry)) slot guest)) ⌝ }
+{
+    match range_admission(frames, map, frame) {
+        Admission::Refused(answer) => Decision::keep(answer),
         Admission::Passed => match pair_of(map, frames, frame) {
-            FrameState::Damaged => Answer::Damaged,
-            FrameState::Host => Answer::NotWaiting,
+            FrameState::Damaged => Decision::keep(Answer::Damaged),
+            FrameState::Host => Decision::keep(Answer::NotWaiting),
             FrameState::Owned {
                 slot: _,
                 shared: _,
                 granule: _,
-            } => Answer::NotWaiting,
+            } => Decision::keep(Answer::NotWaiting),
             FrameState::Waiting => {
                 let number = frame as usize;
                 frames[number] = FrameWord::HOST;
-                Answer::Done(0)
+                Decision::keep(Answer::Done(0))
             }
         },
     }
@@ -39,32 +53,40 @@ pub fn access(frames: &[u32], map: &[u32], frame: u64) -> Answer
     ensures { λ r. ⌜ ((records : Monitor) → answered (state (now (frames .entry)) (now (map .entry)) records) r
         ≡ hostAccessOf frame (state (now (frames .entry)) (now (map .entry)) records)) ⌝ }
 {
-    match range_admission(frames.len(), map.len(), frame) {
-        Admission::Refused(answer) => answer,
+    decide_access(frames, map, frame).answer
+}
+
+// What access decides. It has no slot and looks at no record, so the equation holds with any.
+pub fn decide_access(frames: &[u32], map: &[u32], frame: u64) -> Decision
+    ensures { λ r. ⌜ ((slot : ℕ) (guest : Guest) → result (now (frames .entry)) (now (map .entry)) r
+        ≡ resultOf (accessCommand frame) (view (now (frames .entry)) (now (map .entry)) slot guest)) ⌝ }
+{
+    match range_admission(frames, map, frame) {
+        Admission::Refused(answer) => Decision::keep(answer),
         Admission::Passed => match pair_of(map, frames, frame) {
-            FrameState::Damaged => Answer::Damaged,
-            FrameState::Host => Answer::Done(1),
+            FrameState::Damaged => Decision::keep(Answer::Damaged),
+            FrameState::Host => Decision::keep(Answer::Done(1)),
             FrameState::Owned {
                 slot: _,
                 shared,
                 granule: _,
             } => {
                 if shared {
-                    Answer::Done(1)
+                    Decision::keep(Answer::Done(1))
                 } else {
-                    Answer::Done(0)
+                    Decision::keep(Answer::Done(0))
                 }
             }
-            FrameState::Waiting => Answer::Done(0),
+            FrameState::Waiting => Decision::keep(Answer::Done(0)),
         },
     }
 }
 
 // The tests before any word is looked at: the tables' lengths, a frame of the table.
-fn range_admission(frame_words: usize, map_words: usize, frame: u64) -> Admission
-    ensures { λ r. ⌜ refusalBy r ≡ firstRefusal (rangeTests «frame_words» «map_words» frame) ⌝ }
+fn range_admission(frames: &[u32], map: &[u32], frame: u64) -> Admission
+    ensures { λ r. ⌜ refusalBy r ≡ firstRefusal (lengthTests bothTables (now (frames .entry)) (now (map .entry)) ++ rangeTests (length (now (frames .entry))) frame) ⌝ }
 {
     Admission::Passed
-        .check(lengths_hold(frame_words, map_words), Answer::BadLength)
-        .check((frame as usize) < frame_words, Answer::OutOfRange)
+        .check(lengths_hold(frames.len(), map.len()), Answer::BadLength)
+        .check((frame as usize) < frames.len(), Answer::OutOfRange)
 }

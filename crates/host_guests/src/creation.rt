@@ -1,14 +1,18 @@
 ghost use mathlib.Core.Path.{_≡_};
-ghost use mathlib.Core.List.{List};
+ghost use mathlib.Core.List.{List, _++_};
 ghost use Prim.Native.Nat.{ℕ};
-ghost use Rattle.records.specs.State.{state, answered};
-ghost use Rattle.records.specs.Tests.{firstRefusal, refusalBy};
-ghost use Rattle.host_guests.specs.Calls.{freeSlot, createTests, createOf, runOf};
-use records::Admission;
-use records::Answer;
+ghost use Rattle.commands.specs.State.{state, answered};
+ghost use Rattle.commands.specs.Tests.{firstRefusal, refusalBy};
+ghost use Rattle.commands.specs.Command.{view, bothTables, lengthTests, result, resultOf};
+ghost use Rattle.records.specs.declared.guest.Guest.{Guest};
+ghost use Rattle.host_guests.specs.Calls.{createTests, createCommand, createOf, runCommand, runOf};
+use answers::Answer;
+use commands::Admission;
+use commands::Decision;
+use commands::Reply;
+use records::Change;
 use records::Guest;
 use records::Monitor;
-use records::Reply;
 use rows::row_vacant;
 use tables::lengths_hold;
 use tables::row;
@@ -18,14 +22,16 @@ pub fn create(monitor: Monitor, frames: &[u32], map: &[u32]) -> Reply
     ensures { λ r. ⌜ answered (state (now (frames .entry)) (now (map .entry)) (r .monitor)) (r .answer)
         ≡ createOf (state (now (frames .entry)) (now (map .entry)) monitor) ⌝ }
 {
-    let slot = free_slot(monitor);
-    match create_admission(frames, map, slot) {
-        Admission::Refused(answer) => Reply { monitor, answer },
-        Admission::Passed => Reply {
-            monitor: monitor.with_guest(slot, Guest::created()),
-            answer: Answer::Done(slot),
-        },
-    }
+    let slot = monitor.free_slot();
+    decide_create(frames, map, slot).reply(monitor, slot)
+}
+
+// What create decides of the slot that it would take: the lowest that is not live, or 8. It looks at no record, so the equation holds with any.
+pub fn decide_create(frames: &[u32], map: &[u32], slot: u64) -> Decision
+    ensures { λ r. ⌜ ((guest : Guest) → result (now (frames .entry)) (now (map .entry)) r
+        ≡ resultOf createCommand (view (now (frames .entry)) (now (map .entry)) slot guest)) ⌝ }
+{
+    create_admission(frames, map, slot).decide(Change::Created, Answer::Done(slot))
 }
 
 // The guest in a slot is run. It answers for any slot number and records.
@@ -33,38 +39,21 @@ pub fn run(monitor: Monitor, slot: u64) -> Reply
     ensures { λ r. ⌜ ((frames map : List ℕ) → answered (state frames map (r .monitor)) (r .answer) ≡ runOf slot (state frames map monitor)) ⌝ }
 {
     let guest = monitor.guest(slot);
-    if guest.live {
-        Reply {
-            monitor: monitor.with_guest(slot, guest.mark_run()),
-            answer: Answer::Done(0),
-        }
-    } else {
-        Reply {
-            monitor,
-            answer: Answer::NoGuest,
-        }
-    }
+    decide_run(guest, slot).reply(monitor, slot)
 }
 
-// The lowest slot that is not live, or 8 where all are.
-fn free_slot(monitor: Monitor) -> u64
-    ensures { λ r. ⌜ r ≡ freeSlot monitor ⌝ }
+// What run decides by the record of its slot, any record where the slot is above 7.
+pub fn decide_run(guest: Guest, slot: u64) -> Decision
+    ensures { λ r. ⌜ ((frames map : List ℕ) → result frames map r ≡ resultOf (runCommand slot) (view frames map slot guest)) ⌝ }
 {
-    let mut slot: u64 = 0;
-    while slot < 8 {
-        let guest = monitor.guest(slot);
-        if guest.live {
-            slot += 1;
-        } else {
-            return slot;
-        }
-    }
-    slot
+    Admission::Passed
+        .check(guest.lives_in(slot), Answer::NoGuest)
+        .decide(Change::Run, Answer::Done(0))
 }
 
 // The tests of create, for the slot that it would take. A table whose length is out of bounds is not walked.
 fn create_admission(frames: &[u32], map: &[u32], slot: u64) -> Admission
-    ensures { λ r. ⌜ refusalBy r ≡ firstRefusal (createTests (now (frames .entry)) (now (map .entry)) slot) ⌝ }
+    ensures { λ r. ⌜ refusalBy r ≡ firstRefusal (lengthTests bothTables (now (frames .entry)) (now (map .entry)) ++ createTests (now (map .entry)) slot) ⌝ }
 {
     if lengths_hold(frames.len(), map.len()) {
         Admission::Passed

@@ -4,14 +4,16 @@ use mathlib.Core.List.{[], _∷_, _++_}
 use Prim.Native.Nat.{ℕ}
 use lib.Dec.{eqb, leb}
 use lib.IntN.{negsuc}
-use Rattle.records.specs.Monitor.{guestOf, withGuest}
-use Rattle.records.specs.State.{State, state, Answered, answered}
-use Rattle.records.specs.Tests.{Tests, firstRefusal, unlessRefused}
+use Rattle.records.specs.Change.{bitmapOf}
+use Rattle.commands.specs.State.{State, Answered}
+use Rattle.commands.specs.Tests.{Tests}
+use Rattle.commands.specs.Command.{noTable, givenSlot, hostSuccess, answerOnly, changeRecord, Command, command, performed}
 use Rattle.records.specs.declared.guest.Guest.{Guest}
-use Rattle.records.specs.declared.answer.Answer.{Answer}
-use Rattle.records.specs.declared.answer.Answer.the-variants.{Done, NoGuest, RegisterRefused}
-use Rattle.host_registers.specs.declared.registers.FirmwareRegister.{FirmwareRegister}
-use Rattle.host_registers.specs.declared.registers.FirmwareRegister.the-variants.{Std, StdHyp, VendorHyp, Unknown}
+use Rattle.answers.specs.declared.answer.Answer.{Answer}
+use Rattle.answers.specs.declared.answer.Answer.the-variants.{Done, RegisterRefused}
+use Rattle.records.specs.declared.change.Change.the-variants.{Written}
+use Rattle.records.specs.declared.change.FirmwareRegister.{FirmwareRegister}
+use Rattle.records.specs.declared.change.FirmwareRegister.the-variants.{Std, StdHyp, VendorHyp, Unknown}
 
 unfoldable pub registerNumbered : ℕ → FirmwareRegister
 registerNumbered n = cond (eqb n 0) Std (cond (eqb n 1) StdHyp (cond (eqb n 2) VendorHyp Unknown))
@@ -33,22 +35,6 @@ limitOf Unknown = 0
 abbrev pub withinLimit : FirmwareRegister → ℕ → Bool
 withinLimit r x = leb x (limitOf r)
 
-abbrev pub bitmapOf : FirmwareRegister → Guest → ℕ
-bitmapOf Std g = g .std
-bitmapOf StdHyp g = g .«std_hyp»
-bitmapOf VendorHyp g = g .«vendor_hyp»
-bitmapOf Unknown g = 0
-
-abbrev pub bitmaps : Guest → ℕ → ℕ → ℕ → Guest
-bitmaps g a b c = record { live = g .live; run = g .run; enrolled = g .enrolled; std = a; «std_hyp» = b; «vendor_hyp» = c }
-
--- the record with this bitmap put in; nothing else changes
-abbrev pub withBitmap : FirmwareRegister → ℕ → Guest → Guest
-withBitmap Std x g = bitmaps g x (g .«std_hyp») (g .«vendor_hyp»)
-withBitmap StdHyp x g = bitmaps g (g .std) x (g .«vendor_hyp»)
-withBitmap VendorHyp x g = bitmaps g (g .std) (g .«std_hyp») x
-withBitmap Unknown x g = g
-
 -- "another register is −2 (ENOENT)", "−22 (EINVAL)", "−16 (EBUSY)": `negsuc n` is −(n + 1)
 abbrev pub noSuchRegister : Answer
 noSuchRegister = RegisterRefused (negsuc 1)
@@ -60,23 +46,26 @@ abbrev pub busy : Answer
 busy = RegisterRefused (negsuc 15)
 
 -- "Order: −2, −22, −16"; "any write after run, even of the same value, is −16"
-abbrev pub readTests : Guest → FirmwareRegister → Tests Answer
-readTests g r = (g .live, NoGuest) ∷ (isKnown r, noSuchRegister) ∷ []
+abbrev pub readTests : FirmwareRegister → Tests Answer
+readTests r = (isKnown r, noSuchRegister) ∷ []
 
-abbrev pub writeTests : Guest → FirmwareRegister → ℕ → Tests Answer
-writeTests g r x = readTests g r ++ ((withinLimit r x, invalidValue) ∷ (not (g .run), busy) ∷ [])
+abbrev pub writeTests : FirmwareRegister → ℕ → Guest → Tests Answer
+writeTests r y g = readTests r ++ ((withinLimit r y, invalidValue) ∷ (not (g .run), busy) ∷ [])
 
 -- "register read gives the bitmap in v0"
-abbrev pub bitmapTold : ℕ → ℕ → State → Answered
-bitmapTold v n s = answered s (Done (bitmapOf (registerNumbered n) (guestOf (s .monitor) v)))
+abbrev pub readCommand : ℕ → ℕ → Command
+readCommand v n =
+    let r = registerNumbered n in
+    command noTable (givenSlot v) (λ x. readTests r) (λ x. answerOnly (Done (bitmapOf r (x .guest))))
 
 unfoldable pub registerReadOf : ℕ → ℕ → State → Answered
-registerReadOf v n s = unlessRefused (firstRefusal (readTests (guestOf (s .monitor) v) (registerNumbered n))) s (bitmapTold v n s)
+registerReadOf v n s = performed (readCommand v n) s
 
 -- a write that is done changes the bitmap and nothing else
-abbrev pub bitmapWritten : ℕ → ℕ → ℕ → State → Answered
-bitmapWritten v n x s =
-    answered (state (s .frames) (s .map) (withGuest (s .monitor) v (withBitmap (registerNumbered n) x (guestOf (s .monitor) v)))) (Done 0)
+abbrev pub writeCommand : ℕ → ℕ → ℕ → Command
+writeCommand v n y =
+    let r = registerNumbered n in
+    command noTable (givenSlot v) (λ x. writeTests r y (x .guest)) (λ x. changeRecord (Written r y) (hostSuccess 0))
 
 unfoldable pub registerWriteOf : ℕ → ℕ → ℕ → State → Answered
-registerWriteOf v n x s = unlessRefused (firstRefusal (writeTests (guestOf (s .monitor) v) (registerNumbered n) x)) s (bitmapWritten v n x s)
+registerWriteOf v n y s = performed (writeCommand v n y) s

@@ -1,12 +1,11 @@
-// The guest records as 48 words that a caller lends, and an answer as five.
-// It rests on records. It makes no call and knows no table.
-mod decoding;
-mod encoding;
+// The guest records as words that a caller lends, and an answer as five.
+// It rests on records, answers and commands. It makes no call and knows no table.
+mod layout;
 mod replies;
+mod slots;
 
-pub use decoding::RECORD_WORDS;
-pub use decoding::guest_in;
-pub use decoding::monitor_in;
-pub use encoding::put_record;
+pub use layout::RECORD_WORDS;
 pub use replies::put_answer;
-pub use replies::put_reply;
+pub use slots::guest_in;
+pub use slots::monitor_in;
+pub use slots::put_change;

@@ -1,2 +1,3 @@
 pub mod MonitorLaws
-pub mod TestLaws
+pub mod ChangeLaws
+pub mod SlotLaws

@@ -1,14 +1,16 @@
 -- What is read of the state after a record was put in, and of the fresh state.
-use mathlib.Core.Path.{_≡_}
+use mathlib.Core.Path.{_≡_, refl}
 use mathlib.Core.Logic.{_≢_}
-use mathlib.Core.Bool.{true, false}
+use mathlib.Core.Bool.{Bool, true, false, _&&_}
 use Prim.Native.Nat.{ℕ, _<_}
 use native.Mathlib.Decide.{decLt}
 use native.Mathlib.Omega.{arith}
-use borrow.Author.Tests.{lt-ltb, le-ltb}
+use borrow.Author.Tests.{lt-ltb, le-ltb, ltb-true}
 use lib.ListN.{length, length-set, getD-replicate, List·getD-eq-default}
-use lib.Seq.{getD-set-same, getD-set-other, set-getD, set-out, set-set}
-use Rattle.records.specs.Monitor.{zeroGuest, fresh, guestOf, withGuest}
+use lib.Seq.{getD-set-same, getD-set-other, set-getD, set-set}
+use lib.Dec.{ltb}
+use Rattle.words.proofs.Booleans.{and-false, both-true}
+use Rattle.records.specs.Monitor.{zeroGuest, fresh, guestOf, withGuest, liveIn}
 use Rattle.records.specs.declared.guest.Guest.{Guest}
 use Rattle.records.specs.declared.monitor.Monitor.{Monitor}
 
@@ -73,16 +75,6 @@ put-own m v = go (decLt v 8)
     go (yes h) = rw (lt-ltb v 8 h, set-getD (m .guests) v zeroGuest)
     go (no h) = rw (le-ltb v 8 (omega arith))
 
--- what was put in is put in again
-pub put-read : (m : Monitor) (v : ℕ) (g : Guest) → withGuest m v (guestOf (withGuest m v g) v) ≡ withGuest m v g
-unfolding guestOf withGuest
-put-read m v g = go (decLt v 8) (decLt v (length (m .guests)))
-  where
-    go : Dec (v < 8) → Dec (v < length (m .guests)) → withGuest m v (guestOf (withGuest m v g) v) ≡ withGuest m v g
-    go (yes h) (yes l) = rw (lt-ltb v 8 h, getD-set-same (m .guests) v g zeroGuest l)
-    go (yes h) (no l) = rw (lt-ltb v 8 h, set-out (m .guests) v g (omega arith), set-getD (m .guests) v zeroGuest)
-    go (no h) l = rw (le-ltb v 8 (omega arith))
-
 pub put-again : (m : Monitor) (v : ℕ) (a b : Guest) → withGuest (withGuest m v a) v b ≡ withGuest m v b
 unfolding withGuest
 put-again m v a b = go (decLt v 8)
@@ -90,3 +82,15 @@ put-again m v a b = go (decLt v 8)
     go : Dec (v < 8) → withGuest (withGuest m v a) v b ≡ withGuest m v b
     go (yes h) = rw (lt-ltb v 8 h, set-set (m .guests) v a b)
     go (no h) = rw (le-ltb v 8 (omega arith))
+
+-- the record of slot v says by itself whether a guest lives there
+pub lives : (m : Monitor) (v : ℕ) → liveIn v (guestOf m v) ≡ guestOf m v .live
+lives m v = on (guestOf m v .live) refl
+  where
+    on : (a : Bool) → guestOf m v .live ≡ a → ltb v 8 && a ≡ a
+    on true e = rw (lt-ltb v 8 (live-slot m v e))
+    on false e = and-false (ltb v 8)
+
+-- a record that a guest in slot v has
+pub lived : (v : ℕ) (g : Guest) → liveIn v g ≡ true → (v < 8) × (g .live ≡ true)
+lived v g h = let p = both-true (ltb v 8) (g .live) h in (ltb-true v 8 (p .0), p .1)

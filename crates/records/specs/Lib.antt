@@ -1,4 +1,2 @@
 pub mod Monitor
-pub mod Answer
-pub mod State
-pub mod Tests
+pub mod Change

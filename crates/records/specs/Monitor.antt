@@ -1,25 +1,35 @@
 -- Document 01, "Tables": "The state keeps the guest record of each of eight slots: live, run, enrolled and three feature bitmaps."
-use mathlib.Core.Bool.{true, false, cond}
-use Prim.Native.Nat.{ℕ}
+use mathlib.Core.Bool.{Bool, true, false, cond, _&&_}
+use Prim.Native.Nat.{ℕ, zero, suc}
 use lib.Dec.{ltb}
 use lib.ListN.{getD, set, replicate}
 use Rattle.records.specs.declared.guest.Guest.{Guest}
 use Rattle.records.specs.declared.monitor.Monitor.{Monitor}
 
+-- a record field by field: only here, and in the two below that set some fields and keep the others
+abbrev pub guestWith : Bool → Bool → Bool → ℕ → ℕ → ℕ → Guest
+guestWith l r e a b c = record { live = l; run = r; enrolled = e; std = a; «std_hyp» = b; «vendor_hyp» = c }
+
+abbrev pub withFlags : Bool → Bool → Bool → Guest → Guest
+withFlags l r e g = guestWith l r e (g .std) (g .«std_hyp») (g .«vendor_hyp»)
+
+abbrev pub withBitmaps : ℕ → ℕ → ℕ → Guest → Guest
+withBitmaps a b c g = guestWith (g .live) (g .run) (g .enrolled) a b c
+
 abbrev pub zeroGuest : Guest
-zeroGuest = record { live = false; run = false; enrolled = false; std = 0; «std_hyp» = 0; «vendor_hyp» = 0 }
+zeroGuest = guestWith false false false 0 0 0
 
 -- "create sets every field anew": live, and "The supported limits, also the first values, are 0, 0 and 1."
 abbrev pub newGuest : Guest
-newGuest = record { live = true; run = false; enrolled = false; std = 0; «std_hyp» = 0; «vendor_hyp» = 1 }
+newGuest = withFlags true false false (withBitmaps 0 0 1 zeroGuest)
 
 -- "Run: marks the guest as run"
 abbrev pub markRun : Guest → Guest
-markRun g = record { live = g .live; run = true; enrolled = g .enrolled; std = g .std; «std_hyp» = g .«std_hyp»; «vendor_hyp» = g .«vendor_hyp» }
+markRun g = withFlags (g .live) true (g .enrolled) g
 
 -- "enroll": the flag alone changes
 abbrev pub enroll : Guest → Guest
-enroll g = record { live = g .live; run = g .run; enrolled = true; std = g .std; «std_hyp» = g .«std_hyp»; «vendor_hyp» = g .«vendor_hyp» }
+enroll g = withFlags (g .live) (g .run) true g
 
 -- "Fresh tables and records are all zero."
 abbrev pub fresh : Monitor
@@ -32,3 +42,16 @@ guestOf m v = cond (ltb v 8) (getD (m .guests) v zeroGuest) zeroGuest
 -- the state with slot v's record put in; where there is no such slot, nothing changes
 unfoldable pub withGuest : Monitor → ℕ → Guest → Monitor
 withGuest m v g = cond (ltb v 8) (record { guests = set (m .guests) v g }) m
+
+-- verdict 2, "slot above 7 or not live", passed: whatever record a caller holds for a slot above 7, there is no guest
+abbrev pub liveIn : ℕ → Guest → Bool
+liveIn v g = ltb v 8 && g .live
+
+-- the lowest of n slots from v on that isn't live, or v + n
+unfoldable pub freeFrom : Monitor → ℕ → ℕ → ℕ
+freeFrom m v zero = v
+freeFrom m v (suc n) = cond (guestOf m v .live) (freeFrom m (suc v) n) v
+
+-- "the lowest slot that isn't live", or 8 where all eight are
+abbrev pub freeSlot : Monitor → ℕ
+freeSlot m = freeFrom m 0 8

@@ -1,5 +1,5 @@
 ghost use mathlib.Core.Path.{_≡_};
-ghost use Rattle.records.specs.Monitor.{zeroGuest, newGuest, markRun, enroll};
+ghost use Rattle.records.specs.Monitor.{zeroGuest, liveIn};
 
 // The record of a guest slot. A slot that is not live has no guest, whatever else its record holds.
 pub struct Guest {
@@ -12,7 +12,7 @@ pub struct Guest {
 }
 
 impl Guest {
-    // The record of no guest, as in fresh records and after a removal.
+    // The record of no guest, as in fresh records and after a removal. Only here a record is written out field by field.
     pub fn zero() -> Guest
         ensures { λ r. ⌜ r ≡ zeroGuest ⌝ }
     {
@@ -26,39 +26,13 @@ impl Guest {
         }
     }
 
-    // The record of a guest just created: every field is set anew, the bitmaps to their limits.
-    pub fn created() -> Guest
-        ensures { λ r. ⌜ r ≡ newGuest ⌝ }
+    // Whether this record is that of a guest in a slot. A slot above 7 has none, whatever record is handed in.
+    pub fn lives_in(self, slot: u64) -> bool
+        ensures { λ r. ⌜ r ≡ liveIn slot self ⌝ }
     {
-        Guest {
-            live: true,
-            run: false,
-            enrolled: false,
-            std: 0,
-            std_hyp: 0,
-            vendor_hyp: 1,
+        if slot < 8 {
+            return self.live;
         }
-    }
-
-    // The record of a guest that is run. Nothing else changes.
-    pub fn mark_run(mut self) -> Guest
-        ensures { λ r. ⌜ r ≡ markRun self ⌝ }
-    {
-        self.run = true;
-        self
-    }
-
-    // The record of a guest that enrolls. Nothing else changes.
-    pub fn enroll(self) -> Guest
-        ensures { λ r. ⌜ r ≡ enroll self ⌝ }
-    {
-        Guest {
-            live: self.live,
-            run: self.run,
-            enrolled: true,
-            std: self.std,
-            std_hyp: self.std_hyp,
-            vendor_hyp: self.vendor_hyp,
-        }
+        false
     }
 }

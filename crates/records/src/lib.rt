@@ -1,13 +1,11 @@
-// The guest records, the monitor's state, the answers with document 01's numbers, and tests in their order.
-// It rests on words for signed numbers in registers. It makes no test of its own and decides nothing.
-mod admission;
-mod answer;
+// The guest records, the monitor's state, and what a call does to a record as a value.
+// It rests on words for laws of Booleans. It says which slot is free and whether a guest lives in one, and refuses nothing: that is up to the
+// calls.
+mod change;
 mod guest;
 mod monitor;
 
-pub use admission::Admission;
-pub use answer::Answer;
-pub use answer::Numbers;
+pub use change::Change;
+pub use change::FirmwareRegister;
 pub use guest::Guest;
 pub use monitor::Monitor;
-pub use monitor::Reply;

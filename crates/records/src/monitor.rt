@@ -1,17 +1,12 @@
 ghost use mathlib.Core.Path.{_≡_};
-ghost use Rattle.records.specs.Monitor.{fresh, guestOf, withGuest};
-use crate::answer::Answer;
+ghost use Rattle.records.specs.Monitor.{fresh, guestOf, freeSlot};
+ghost use Rattle.records.specs.Change.{withChange};
+use crate::change::Change;
 use crate::guest::Guest;
 
 // The monitor's state: the records of the eight guest slots. A call takes it by value and hands it back.
 pub struct Monitor {
     pub guests: [Guest; 8],
-}
-
-// What a call hands back.
-pub struct Reply {
-    pub monitor: Monitor,
-    pub answer: Answer,
 }
 
 impl Monitor {
@@ -37,15 +32,35 @@ impl Monitor {
         }
     }
 
-    // The state with the record of a slot put in. A slot above 7 changes nothing.
-    pub fn with_guest(mut self, slot: u64, guest: Guest) -> Monitor
-        ensures { λ r. ⌜ r ≡ withGuest self slot guest ⌝ }
+    // The lowest slot that is not live, or 8 where all are.
+    pub fn free_slot(self) -> u64
+        ensures { λ r. ⌜ r ≡ freeSlot self ⌝ }
+    {
+        let mut slot: u64 = 0;
+        while slot < 8 {
+            let guest = self.guest(slot);
+            if guest.live {
+                slot += 1;
+            } else {
+                return slot;
+            }
+        }
+        slot
+    }
+
+    // The state with the record of a slot changed. A slot above 7 changes nothing.
+    pub fn with_change(mut self, slot: u64, change: Change) -> Monitor
+        ensures { λ r. ⌜ r ≡ withChange self slot change ⌝ }
     {
         if 8 <= slot {
             return self;
         }
-        let at = slot as usize;
-        self.guests[at] = guest;
+        if change.alters() {
+            let at = slot as usize;
+            let guest = self.guests[at];
+            self.guests[at] = change.apply(guest);
+            return self;
+        }
         self
     }
 }

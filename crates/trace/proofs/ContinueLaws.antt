@@ -1,22 +1,28 @@
 -- A replay that stopped after some records goes on as if it had not: the texts stand one behind the other.
-use mathlib.Core.Path.{_≡_, refl, _∙_, sym, ap}
+use mathlib.Core.Path.{_≡_, refl, _∙_, ap}
 use mathlib.Core.Bool.{Bool, true, false}
 use mathlib.Core.List.{List, [], _++_, append-assoc}
-use Prim.Native.Nat.{ℕ, _+_, _≤_, _<_}
+use Prim.Native.Nat.{ℕ, _+_, _≤_}
 use native.Mathlib.Omega.{arith}
 use lib.ListN.{length, take, drop, length-drop}
 use lib.Seq.{drop-drop, drop-length}
-use Rattle.records.specs.Answer.{numbersOf}
+use Rattle.answers.specs.Answer.{numbersOf}
 use Rattle.calls.specs.Step.{step}
 use Rattle.trace_records.specs.Record.{decodeOf}
 use Rattle.trace_records.specs.declared.decoding.Decoded.{Decoded}
 use Rattle.trace_records.specs.declared.decoding.Decoded.the-variants.{Record, Bad, Unfinished}
 use Rattle.trace_lines.proofs.LineLaws.{line-length}
 use Rattle.trace_lines.specs.declared.lines.Line.the-variants.{Answer}
-use Rattle.trace.specs.Replay.{Replay, replay, waiting, unlessStopped, advanceOf, textBefore}
-use Rattle.trace.specs.Contracts.{Continues, Advances}
-use Rattle.trace.specs.declared.session.Advanced.{Advanced}
+use Rattle.trace.specs.Replay.{Replay, replay, Advance, waiting, unlessStopped, advanceOf, textBefore}
+use Rattle.trace_lines.specs.Puts.{Puts}
+use Rattle.trace.specs.Contracts.{Continues}
 use Rattle.trace.proofs.ReplayLaws.{took, outcome-advances, advance-stopped, advance-decoded}
+
+-- one record, as the code made it: what is kept then, the bytes taken, and the text put behind the first n bytes of the buffer
+pub record Advances (a : Advance) (left : Replay) (before : List ℕ) (n : ℕ) (after : List ℕ) (taken put : ℕ) : Type 0 where
+  pub keeps : left ≡ a .left
+  pub takes : taken ≡ a .taken
+  pub puts : Puts before n (a .text) after put
 
 pub continues-start : (r : Replay) (s : List ℕ) → Continues r s r 0 []
 continues-start r s later = refl
@@ -29,10 +35,10 @@ continues-more start r s text n h later =
     ∙ rw (drop-drop (advanceOf r (drop n s) .taken) n s, append-assoc)
 
 -- one record more, as the code made it
-pub advance-continues : (start r left : Replay) (s before now : List ℕ) (n p : ℕ) (x : Advanced) → Continues start s r n (take p before)
-    → Advances (advanceOf r (drop n s)) left before p now x
-    → Continues start s left (n + x .taken) (take (x .put) now)
-advance-continues start r left s before now n p x h a = rw (a .keeps, a .takes, a .puts .holds) (continues-more start r s (take p before) n h)
+pub advance-continues : (start r left : Replay) (s before now : List ℕ) (n p t q : ℕ) → Continues start s r n (take p before)
+    → Advances (advanceOf r (drop n s)) left before p now t q
+    → Continues start s left (n + t) (take q now)
+advance-continues start r left s before now n p t q h a = rw (a .keeps, a .takes, a .puts .holds) (continues-more start r s (take p before) n h)
 
 -- a record's text is a line at the most
 text-by : (b : Bool) (r : Replay) (s : List ℕ) (d : Decoded) → length (unlessStopped b r s d .text) ≤ 105
@@ -46,16 +52,12 @@ unfolding advanceOf
 text-length r s = text-by (r .stopped) r s (decodeOf s)
 
 -- how far it gets
-pub advance-within : (r left : Replay) (s before now : List ℕ) (n p : ℕ) (x : Advanced) → n ≤ length s → p + 105 ≤ 65536
-    → Advances (advanceOf r (drop n s)) left before p now x
-    → (n + x .taken ≤ length s) × (x .put ≤ 65536)
-advance-within r left s before now n p x h k a =
+pub advance-within : (r left : Replay) (s before now : List ℕ) (n p t q : ℕ) → n ≤ length s → p + 105 ≤ 65536
+    → Advances (advanceOf r (drop n s)) left before p now t q
+    → (n + t ≤ length s) × (q ≤ 65536)
+advance-within r left s before now n p t q h k a =
     let room = took r (drop n s) .0 in
     (omega (arith, length-drop n s, a .takes), omega (arith, text-length r (drop n s), a .puts .count))
-
-pub advance-gets-on : (r left : Replay) (s before now : List ℕ) (p : ℕ) (x : Advanced) → Advances (advanceOf r s) left before p now x
-    → x .more ≡ true → 0 < x .taken
-advance-gets-on r left s before now p x a h = rw (a .takes) (took r s .1 (sym (a .goes) ∙ h))
 
 -- where it does not go on, it waits for more bytes
 waits-by : (b : Bool) (r : Replay) (s : List ℕ) → r .stopped ≡ b → (d : Decoded) → decodeOf s ≡ d
@@ -67,8 +69,8 @@ waits-by false r s e (Record c n) q h = let z : _≡_ {A = ℕ} 0 1 = cc in absu
 waits-by false r s e Bad q h = let end = replay (r .state) (r .answered) true in advance-stopped end (drop (length s) s) refl ∙ rw (drop-length s)
 waits-by false r s e Unfinished q h = advance-decoded r s Unfinished e q
 
-pub advance-waits : (r left : Replay) (s before now : List ℕ) (n p : ℕ) (x : Advanced) → Advances (advanceOf r (drop n s)) left before p now x
-    → x .more ≡ false → advanceOf left (drop (n + x .taken) s) ≡ waiting left
+pub advance-waits : (r left : Replay) (s before now : List ℕ) (n p t q : ℕ) → Advances (advanceOf r (drop n s)) left before p now t q
+    → advanceOf r (drop n s) .more ≡ false → advanceOf left (drop (n + t) s) ≡ waiting left
 unfolding advanceOf
-advance-waits r left s before now n p x a h =
-    rw (a .keeps, a .takes, ← drop-drop (advanceOf r (drop n s) .taken) n s) (waits-by (r .stopped) r (drop n s) refl (decodeOf (drop n s)) refl (sym (a .goes) ∙ h))
+advance-waits r left s before now n p t q a h =
+    rw (a .keeps, a .takes, ← drop-drop (advanceOf r (drop n s) .taken) n s) (waits-by (r .stopped) r (drop n s) refl (decodeOf (drop n s)) refl h)

@@ -1,4 +1,5 @@
 pub mod ReplayLaws
 pub mod ContinueLaws
+pub mod TurnLaws
 pub mod TailLaws
 pub mod Whole

@@ -11,20 +11,19 @@ use Rattle.words.specs.FrameWord.{frameBits, frameWordOf}
 use Rattle.tables.specs.Length.{framesHold, mapHolds}
 use Rattle.tables.specs.Row.{boundsOf}
 use Rattle.pairs.specs.Pair.{granuleState, pairAt, frameState, pairOf}
-use Rattle.records.specs.Monitor.{guestOf, withGuest}
-use Rattle.records.specs.Answer.{numbersOf}
+use Rattle.records.specs.Monitor.{guestOf, withGuest, freeFrom}
+use Rattle.answers.specs.Answer.{numbersOf}
 use Rattle.granules.specs.Kind.{changeOf}
 use Rattle.granules.specs.Step.{stepFrom}
 use Rattle.functions.specs.Function.{functionOf}
-use Rattle.functions.specs.Table.{callRowOf}
-use Rattle.actions.specs.Action.{actionOf}
+use Rattle.call_table.specs.Table.{callRowOf}
 use Rattle.guest_hypercalls.specs.Calls.{actOf, hypercallOf}
 use Rattle.rows.specs.WholeRow.{rowVacant}
 use Rattle.host_donation.specs.Calls.{donateOf}
-use Rattle.host_guests.specs.Calls.{freeFrom, createOf, runOf}
+use Rattle.host_guests.specs.Calls.{createOf, runOf}
 use Rattle.calls.specs.Step.{step}
-use Rattle.trace_kinds.specs.Kind.{kindOf, lengthOf}
-use Rattle.trace_records.specs.Record.{askedIn, decodeOf}
+use Rattle.trace_kinds.specs.Kind.{kindOf}
+use Rattle.trace_records.specs.Record.{decodeOf}
 use Rattle.trace_records.specs.declared.decoding.Decoded.{Decoded}
 use Rattle.trace_records.specs.declared.decoding.Decoded.the-variants.{Record, Bad, Unfinished}
 use Rattle.trace_records.proofs.DecodeLaws.{unfinished-size}
@@ -70,5 +69,5 @@ held-at-most r s h = held-by (r .stopped) r s (decodeOf s) refl refl h
 
 -- document 01's example and the empty input
 pub log-cases : map found cases ≡ map expected cases
-unfolding replayText outcomeOf advanceOf decodeOf kindOf lengthOf askedIn numeral decimal step createOf freeFrom donateOf runOf hypercallOf actOf functionOf callRowOf actionOf stepFrom changeOf rowVacant boundsOf frameState pairOf granuleState pairAt mapWordOf frameWordOf mapBits frameBits numbersOf guestOf withGuest framesHold mapHolds
+unfolding replayText outcomeOf advanceOf decodeOf kindOf numeral decimal step createOf freeFrom donateOf runOf hypercallOf actOf functionOf callRowOf stepFrom changeOf rowVacant boundsOf frameState pairOf granuleState pairAt mapWordOf frameWordOf mapBits frameBits numbersOf guestOf withGuest framesHold mapHolds
 log-cases = refl

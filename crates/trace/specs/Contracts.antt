@@ -4,27 +4,27 @@ use mathlib.Core.Bool.{true, false}
 use mathlib.Core.List.{List, _++_}
 use Prim.Native.Nat.{ℕ, _+_, _≤_, _<_}
 use lib.ListN.{length, take, drop}
-use Rattle.records.specs.State.{state}
+use Rattle.commands.specs.State.{state}
+use Rattle.answers.specs.Answer.{numbersOf}
+use Rattle.commands.specs.Command.{Result}
+use Rattle.trace_lines.specs.Line.{lineText}
 use Rattle.trace_lines.specs.Puts.{Puts}
+use Rattle.trace_lines.specs.declared.lines.Line.the-variants as line
 use Rattle.trace.specs.declared.session.Session.{Session}
-use Rattle.trace.specs.declared.session.Advanced.{Advanced}
+use Rattle.trace.specs.declared.session.Answered.{Answered}
 use Rattle.trace.specs.declared.session.Progress.{Progress}
-use Rattle.trace.specs.Replay.{Replay, replay, Advance, waiting, advanceOf, textBefore, outcomeOf}
+use Rattle.trace.specs.Replay.{Replay, replay, waiting, advanceOf, textBefore, outcomeOf}
 
 -- what a session keeps, with its tables
 abbrev pub kept : Session → List ℕ → List ℕ → Replay
 kept s frames map = replay (state frames map (s .monitor)) (s .answered) (s .stopped)
 
--- no record is answered
-abbrev pub resting : Session → ℕ → ℕ → Advanced
-resting s n m = record { session = s; taken = n; put = m; more = false }
-
--- of one record: what is left, how far it got, the text put behind the first n bytes of the buffer
-pub record Advances (a : Advance) (left : Replay) (before : List ℕ) (n : ℕ) (after : List ℕ) (r : Advanced) : Type 0 where
-  pub keeps : left ≡ a .left
-  pub takes : r .taken ≡ a .taken
-  pub puts : Puts before n (a .text) after (r .put)
-  pub goes : r .more ≡ a .more
+-- of a call that comes to o: the tables and the change are its own, and its line stands behind the first n bytes of the buffer
+pub record Answers (o : Result) (frames map before : List ℕ) (n : ℕ) (after : List ℕ) (r : Answered) : Type 0 where
+  pub frames-left : frames ≡ o .frames
+  pub map-left : map ≡ o .map
+  pub changes : r .change ≡ o .decision .change
+  pub puts : Puts before n (lineText (line.Answer (numbersOf (o .decision .answer)))) after (r .put)
 
 -- whatever bytes `later` follow: with n bytes taken and this text written, what is left comes to what all would have come to
 abbrev pub Continues : Replay → List ℕ → Replay → ℕ → List ℕ → Type 0

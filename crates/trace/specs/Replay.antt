@@ -4,8 +4,8 @@ use mathlib.Core.List.{List, [], _++_}
 use Prim.Native.Nat.{ℕ, zero, suc, _+_, _%_, _^_}
 use lib.Dec.{eqb}
 use lib.ListN.{length, drop}
-use Rattle.records.specs.Answer.{numbersOf}
-use Rattle.records.specs.State.{State}
+use Rattle.answers.specs.Answer.{numbersOf}
+use Rattle.commands.specs.State.{State}
 use Rattle.calls.specs.Step.{step, freshState}
 use Rattle.trace_records.specs.Record.{decodeOf}
 use Rattle.trace_records.specs.declared.decoding.Decoded.{Decoded}

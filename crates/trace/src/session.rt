@@ -1,8 +1,16 @@
 ghost use mathlib.Core.Path.{_≡_};
 ghost use Prim.Native.Nat.{_+_, _≤_};
 ghost use Rattle.trace_lines.specs.Puts.{Puts};
-ghost use Rattle.trace.specs.Replay.{freshReplay, advanceOf, closing};
-ghost use Rattle.trace.specs.Contracts.{kept, resting, Advances, Replays};
+ghost use mathlib.Core.Bool.{_&&_};
+ghost use lib.Dec.{ltb};
+ghost use Rattle.records.specs.Change.{alters};
+ghost use Rattle.commands.specs.Command.{view, resultOf};
+ghost use Rattle.calls.specs.Step.{commandOf};
+ghost use Rattle.trace.specs.Replay.{freshReplay, closing};
+ghost use Rattle.trace.specs.Contracts.{kept, Answers, Replays};
+use calls::Call;
+use records::Change;
+use records::Guest;
 use records::Monitor;
 use trace_lines::LONGEST;
 use trace_lines::Line;
@@ -24,12 +32,11 @@ pub struct Session {
     pub stopped: bool,
 }
 
-// What one record came to.
-pub struct Advanced {
-    pub session: Session,
-    pub taken: usize,
+// What a record that asks for a call came to, beside the tables: what is to be done to the record of the call's slot, and how far the buffer is
+// filled.
+pub struct Answered {
+    pub change: Change,
     pub put: usize,
-    pub more: bool,
 }
 
 // How far a replay got: the bytes taken, the bytes put into the buffer, and whether it waits for more input. Where it does not, the buffer is
@@ -55,66 +62,6 @@ impl Session {
         }
     }
 
-    // Answers the record at the head of some bytes.
-    fn advance(
-        self,
-        frames: &mut [u32],
-        map: &mut [u32],
-        ahead: &[u8],
-        out: &mut [u8; ROOM],
-        at: usize,
-    ) -> Advanced
-        requires { ⌜ at + 105 ≤ 65536 ⌝ }
-        ensures { λ r. ⌜ Advances (advanceOf (kept self (now (frames .entry)) (now (map .entry))) (now (ahead .entry)))
-            (kept (r .session) (now (frames .exit)) (now (map .exit))) (now (out .entry)) at (now (out .exit)) r ⌝ }
-    {
-        let monitor = self.monitor;
-        let answered = self.answered;
-        if self.stopped {
-            return self.rest(ahead.len(), at);
-        }
-        match decode(ahead) {
-            Decoded::Record(call, size) => {
-                let reply = call.perform(monitor, frames, map);
-                let answer = reply.answer;
-                let after = reply.monitor;
-                Advanced {
-                    session: Session {
-                        monitor: after,
-                        answered: std::num::wrapping_add_u64(answered, 1),
-                        stopped: false,
-                    },
-                    taken: size,
-                    put: Line::Answer(answer.numbers()).put(out, at),
-                    more: true,
-                }
-            }
-            Decoded::Bad => Advanced {
-                session: Session {
-                    monitor,
-                    answered,
-                    stopped: true,
-                },
-                taken: ahead.len(),
-                put: Line::Bad.put(out, at),
-                more: false,
-            },
-            Decoded::Unfinished => self.rest(0, at),
-        }
-    }
-
-    // No record is answered.
-    fn rest(self, taken: usize, put: usize) -> Advanced
-        ensures { λ r. ⌜ r ≡ resting self taken put ⌝ }
-    {
-        Advanced {
-            session: self,
-            taken,
-            put,
-            more: false,
-        }
-    }
-
     // Answers the records at the start of some bytes in turn, and puts their lines into the buffer. It ends where a record is bad or not yet
     // finished, or where there is no room for another line.
     pub fn replay(
@@ -127,25 +74,65 @@ impl Session {
         ensures { λ r. ⌜ Replays (kept self (now (frames .entry)) (now (map .entry))) (kept (r .session) (now (frames .exit)) (now (map .exit)))
             (now (bytes .entry)) (now (out .exit)) r ⌝ }
     {
-        let mut session = self;
+        if self.stopped {
+            return Progress {
+                session: self,
+                taken: bytes.len(),
+                put: 0,
+                waits: true,
+            };
+        }
+        let mut monitor = self.monitor;
+        let mut answered = self.answered;
         let mut taken: usize = 0;
         let mut put: usize = 0;
         while put <= ROOM - LONGEST {
-            let step = session.advance(frames, map, &bytes[taken..], out, put);
-            session = step.session;
-            taken += step.taken;
-            put = step.put;
-            if !step.more {
-                return Progress {
-                    session,
-                    taken,
-                    put,
-                    waits: true,
-                };
+            match decode(&bytes[taken..]) {
+                Decoded::Unfinished => {
+                    return Progress {
+                        session: Session {
+                            monitor,
+                            answered,
+                            stopped: false,
+                        },
+                        taken,
+                        put,
+                        waits: true,
+                    };
+                }
+                Decoded::Bad => {
+                    return Progress {
+                        session: Session {
+                            monitor,
+                            answered,
+                            stopped: true,
+                        },
+                        taken: bytes.len(),
+                        put: Line::Bad.put(out, put),
+                        waits: true,
+                    };
+                }
+                Decoded::Record(call, size) => {
+                    let slot = call.slot(monitor);
+                    let at = (slot % 8) as usize;
+                    let guest = monitor.guests[at];
+                    let step = answer(call, slot, guest, frames, map, out, put);
+                    let change = step.change;
+                    if stores(change, slot) {
+                        monitor.guests[at] = change.apply(guest);
+                    }
+                    answered = std::num::wrapping_add_u64(answered, 1);
+                    taken += size;
+                    put = step.put;
+                }
             }
         }
         Progress {
-            session,
+            session: Session {
+                monitor,
+                answered,
+                stopped: false,
+            },
             taken,
             put,
             waits: false,
@@ -163,4 +150,37 @@ impl Session {
         let next = Line::Bad.put(out, 0);
         Line::Last(answered).put(out, next)
     }
+}
+
+// A call decided by the record of its slot, and its line put into the buffer.
+fn answer(
+    call: Call,
+    slot: u64,
+    guest: Guest,
+    frames: &mut [u32],
+    map: &mut [u32],
+    out: &mut [u8; ROOM],
+    at: usize,
+) -> Answered
+    requires { ⌜ at + 105 ≤ 65536 ⌝ }
+    ensures { λ r. ⌜ Answers (resultOf (commandOf call) (view (now (frames .entry)) (now (map .entry)) slot guest)) (now (frames .exit)) (now (map .exit))
+        (now (out .entry)) at (now (out .exit)) r ⌝ }
+{
+    let decision = call.decide(slot, guest, frames, map);
+    let change = decision.change;
+    let answer = decision.answer;
+    Answered {
+        change,
+        put: Line::Answer(answer.numbers()).put(out, at),
+    }
+}
+
+// Whether a change of a slot's record is to be stored.
+fn stores(change: Change, slot: u64) -> bool
+    ensures { λ r. ⌜ r ≡ (ltb slot 8 && alters change) ⌝ }
+{
+    if slot < 8 {
+        return change.alters();
+    }
+    false
 }

@@ -1,2 +1,2 @@
-pub mod LengthLaws
+pub mod KindLaws
 pub mod ByteLaws

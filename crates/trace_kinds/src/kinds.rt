@@ -1,7 +1,10 @@
 ghost use mathlib.Core.Path.{_≡_};
-ghost use Rattle.trace_kinds.specs.Kind.{kindOf, lengthOf};
+ghost use Rattle.trace_kinds.specs.Kind.{kindOf, argumentsOf, lengthOf};
 
-// The kinds of records, in the order of their numbers.
+// The version of every record.
+pub const VERSION: u8 = 1;
+
+// The kinds of records.
 pub enum Kind {
     Create,
     Donate,
@@ -13,47 +16,66 @@ pub enum Kind {
     Access,
     RegisterRead,
     RegisterWrite,
-    // The number belongs to no kind.
+}
+
+// The kinds in the order of their numbers, from 1.
+pub(crate) const KINDS: [Kind; 10] = [
+    Kind::Create,
+    Kind::Donate,
+    Kind::Run,
+    Kind::Hypercall,
+    Kind::Abort,
+    Kind::Remove,
+    Kind::Cleared,
+    Kind::Access,
+    Kind::RegisterRead,
+    Kind::RegisterWrite,
+];
+
+// What a number stands for.
+pub enum Found {
+    Known(Kind),
+    // It belongs to no kind.
     Unknown,
 }
 
 impl Kind {
-    pub fn of(number: u8) -> Kind
+    pub fn of(number: u8) -> Found
         ensures { λ r. ⌜ r ≡ kindOf number ⌝ }
     {
-        match number {
-            0 => Kind::Unknown,
-            1 => Kind::Create,
-            2 => Kind::Donate,
-            3 => Kind::Run,
-            4 => Kind::Hypercall,
-            5 => Kind::Abort,
-            6 => Kind::Remove,
-            7 => Kind::Cleared,
-            8 => Kind::Access,
-            9 => Kind::RegisterRead,
-            10 => Kind::RegisterWrite,
-            11..=255 => Kind::Unknown,
+        let at = number as usize;
+        if 0 < at {
+            if at <= KINDS.len() {
+                let kind = KINDS[at - 1];
+                return Found::Known(kind);
+            }
+            return Found::Unknown;
+        }
+        Found::Unknown
+    }
+
+    // How many arguments a record of this kind has.
+    pub fn arguments(self) -> u8
+        ensures { λ r. ⌜ r ≡ argumentsOf self ⌝ }
+    {
+        match self {
+            Kind::Create => 0,
+            Kind::Donate => 2,
+            Kind::Run => 0,
+            Kind::Hypercall => 4,
+            Kind::Abort => 1,
+            Kind::Remove => 0,
+            Kind::Cleared => 1,
+            Kind::Access => 1,
+            Kind::RegisterRead => 1,
+            Kind::RegisterWrite => 2,
         }
     }
 
-    // The length of a record of this kind, without the two bytes that hold it: three bytes, and eight for each argument. An unknown kind
-    // has none.
+    // The length of a record of this kind, without the two bytes that hold it: three bytes, and eight for each argument.
     pub fn length(self) -> usize
         ensures { λ r. ⌜ r ≡ lengthOf self ⌝ }
     {
-        match self {
-            Kind::Create => 3,
-            Kind::Donate => 19,
-            Kind::Run => 3,
-            Kind::Hypercall => 35,
-            Kind::Abort => 11,
-            Kind::Remove => 3,
-            Kind::Cleared => 11,
-            Kind::Access => 11,
-            Kind::RegisterRead => 11,
-            Kind::RegisterWrite => 19,
-            Kind::Unknown => 0,
-        }
+        3 + 8 * (self.arguments() as usize)
     }
 }

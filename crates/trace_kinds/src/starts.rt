@@ -1,38 +1,40 @@
 ghost use mathlib.Core.Path.{_≡_};
 ghost use lib.ListN.{getD};
 ghost use Rattle.trace_kinds.specs.Kind.{someLength, startHolds};
+use crate::kinds::KINDS;
+use crate::kinds::Kind;
+use crate::kinds::VERSION;
 
 // A byte, or another where there is none.
-fn byte_or(s: &[u8], at: usize, other: u8) -> u8
+fn byte_or(s: &[u8], at: usize, other: usize) -> usize
     ensures { λ r. ⌜ r ≡ getD (now (s .entry)) at other ⌝ }
 {
-    if at < s.len() { s[at] } else { other }
+    if at < s.len() { s[at] as usize } else { other }
 }
 
 // Whether some kind has this length.
-fn some_length(length: u8) -> bool
+fn some_length(length: usize) -> bool
     ensures { λ r. ⌜ r ≡ someLength length ⌝ }
 {
-    match length {
-        0..=2 => false,
-        3 => true,
-        4..=10 => false,
-        11 => true,
-        12..=18 => false,
-        19 => true,
-        20..=34 => false,
-        35 => true,
-        36..=255 => false,
+    let mut i: usize = 0;
+    while i < KINDS.len() {
+        let kind = KINDS[i];
+        if kind.length() == length {
+            return true;
+        }
+        i += 1;
     }
+    false
 }
 
 // Whether fewer than four bytes are those that a record begins with.
 pub fn start_holds(s: &[u8]) -> bool
     ensures { λ r. ⌜ r ≡ startHolds (now (s .entry)) ⌝ }
 {
+    let version = VERSION as usize;
     if byte_or(s, 0, 0) == 0 {
-        if some_length(byte_or(s, 1, 3)) {
-            return byte_or(s, 2, 1) == 1;
+        if some_length(byte_or(s, 1, Kind::Create.length())) {
+            return byte_or(s, 2, version) == version;
         }
         return false;
     }

@@ -3,7 +3,7 @@ use mathlib.Core.Bool.{cond}
 use mathlib.Core.List.{List, [], _∷_, _++_}
 use Prim.Native.Nat.{ℕ, zero, suc, _+_, _-_, _/_, _%_}
 use lib.Dec.{ltb, leb}
-use Rattle.records.specs.declared.answer.Numbers.{Numbers}
+use Rattle.answers.specs.declared.answer.Numbers.{Numbers}
 use Rattle.trace_lines.specs.declared.lines.Line.{Line}
 use Rattle.trace_lines.specs.declared.lines.Line.the-variants.{First, Answer, Bad, Last}
 

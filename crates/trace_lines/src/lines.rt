@@ -4,7 +4,7 @@ ghost use Rattle.trace_lines.specs.Puts.{Puts};
 use crate::puts::ROOM;
 use crate::puts::put_bytes;
 use crate::puts::put_cell;
-use records::Numbers;
+use answers::Numbers;
 
 // The bytes of the longest line: five numbers of 20 digits, each with the byte behind it.
 pub const LONGEST: usize = 105;

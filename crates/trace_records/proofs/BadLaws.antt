@@ -1,107 +1,74 @@
 -- What is bad stays bad when more bytes follow it.
 use mathlib.Core.Path.{_≡_, refl, _∙_, sym}
-use mathlib.Core.Bool.{Bool, true, false, cond, _&&_}
+use mathlib.Core.Bool.{Bool, true, false, cond}
 use mathlib.Core.List.{List, [], _∷_, _++_}
-use Prim.Native.Nat.{ℕ, _+_, _≤_}
+use Prim.Native.Nat.{ℕ, _+_}
 use native.Mathlib.Omega.{arith}
-use borrow.Author.Tests.{ltb-true, ltb-false, eqb-true, eqb-false, le-ltb, ne-eqb}
+use borrow.Author.Tests.{eqb-true, eq-eqb}
 use lib.Dec.{eqb, ltb}
-use lib.ListN.{length, length-append}
-use Rattle.words.proofs.Booleans.{both-true, false-unless, and-false, never}
+use lib.ListN.{length, getD}
+use Rattle.words.proofs.Booleans.{both-true, false-unless}
+use Rattle.calls.specs.declared.call.Call.{Call}
 use Rattle.trace_kinds.specs.declared.kinds.Kind.{Kind}
-use Rattle.trace_records.specs.declared.decoding.Decoded.{Decoded}
+use Rattle.trace_kinds.specs.declared.kinds.Found.{Found}
+use Rattle.trace_kinds.specs.declared.kinds.Found.the-variants.{Known, Unknown}
 use Rattle.trace_records.specs.declared.decoding.Decoded.the-variants.{Bad, Unfinished}
-use Rattle.trace_kinds.specs.Kind.{kindOf, lengthOf, someLength}
-use Rattle.trace_records.specs.Record.{bigEndian, askedIn, decodeOf}
-use Rattle.trace_kinds.proofs.LengthLaws.{length-at-most, length-some}
-use Rattle.trace_records.proofs.KindLaws.{asked-stays}
-use Rattle.trace_records.proofs.DecodeLaws.{header, byHeader, four}
+use Rattle.trace_kinds.specs.Kind.{version, kindOf, lengthOf, someLength, startHolds}
+use Rattle.trace_records.specs.Record.{bigEndian, askedIn, recordIn, decodeOf}
+use Rattle.trace_kinds.proofs.KindLaws.{length-at-most, length-some}
+use Rattle.trace_records.proofs.DecodeLaws.{header, byHeader, Seen, few, enough, seen, by-start, four}
 
--- a fault in one of the first three bytes can't be mended
-first-header : (a b v : ℕ) (k : Kind) → eqb a 0 ≡ false → header a b v (lengthOf k) ≡ false
-first-header a b v k h =
-    let other = ne-eqb (bigEndian (a ∷ b ∷ [])) (lengthOf k) (λ e. eqb-false a 0 h (omega (arith, length-at-most k, e))) in
-    rw (other, and-false (ltb 0 (lengthOf k)))
+no : {a : Bool} → a ≡ false → a ≡ true → ⊥
+no h e = let z : _≡_ {A = ℕ} 0 1 = cc in omega arith
 
-second-header : (a b v : ℕ) (k : Kind) → someLength b ≡ false → header a b v (lengthOf k) ≡ false
-second-header a b v k h = false-unless (header a b v (lengthOf k)) (λ e. refuted e)
-  where
-    refuted : header a b v (lengthOf k) ≡ true → ⊥
-    refuted e =
-        let parts = both-true (ltb 0 (lengthOf k)) (eqb (bigEndian (a ∷ b ∷ [])) (lengthOf k) && eqb v 1) e in
-        let same = eqb-true (bigEndian (a ∷ b ∷ [])) (lengthOf k) (both-true (eqb (bigEndian (a ∷ b ∷ [])) (lengthOf k)) (eqb v 1) (parts .1) .0) in
-        let low : b ≡ lengthOf k = omega (arith, length-at-most k) in
-        let some : someLength b ≡ true = rw low (length-some k (ltb-true 0 (lengthOf k) (parts .0))) in
-        let z : _≡_ {A = ℕ} 0 1 = cc in
-        omega arith
+-- bytes that a record begins with have begun so before
+began : (s t : List ℕ) → startHolds (s ++ t) ≡ true → startHolds s ≡ true
+began [] t h = refl
+began (a ∷ []) t h = rw (both-true (eqb a 0) (startHolds (0 ∷ t)) h .0)
+began (a ∷ b ∷ []) t h =
+    let p = both-true (eqb a 0) (startHolds (0 ∷ b ∷ t)) h in
+    rw (p .0, both-true (someLength b) (eqb (getD t 0 version) version) (p .1) .0)
+began (a ∷ b ∷ v ∷ s) t h = h
 
-third-header : (a b v : ℕ) (k : Kind) → eqb v 1 ≡ false → header a b v (lengthOf k) ≡ false
-third-header a b v k h = rw (h, and-false (eqb (bigEndian (a ∷ b ∷ [])) (lengthOf k)), and-false (ltb 0 (lengthOf k)))
+-- a header of a kind begins a record
+header-begins : (a b v k : ℕ) (s : List ℕ) (x : Kind) → kindOf k ≡ Known x → header a b v (lengthOf x) ≡ true → startHolds (a ∷ b ∷ v ∷ k ∷ s) ≡ true
+header-begins a b v k s x e h =
+    let p = both-true (eqb (bigEndian (a ∷ b ∷ [])) (lengthOf x)) (eqb v version) h in
+    let same = eqb-true (bigEndian (a ∷ b ∷ [])) (lengthOf x) (p .0) in
+    let low : b ≡ lengthOf x = omega (arith, length-at-most k x e) in
+    rw (eq-eqb a 0 (omega (arith, length-at-most k x e)), low, length-some k x e, p .1)
 
-first-fault : (a : ℕ) (s : List ℕ) → eqb a 0 ≡ false → decodeOf (a ∷ s) ≡ Bad
-unfolding decodeOf
-first-fault a [] h = rw h
-first-fault a (b ∷ []) h = rw h
-first-fault a (b ∷ v ∷ []) h = rw h
-first-fault a (b ∷ v ∷ k ∷ s) h = four a b v k s ∙ rw (first-header a b v (kindOf k) h)
+-- bytes that no record begins with are bad
+no-header : (f : Found) (a b v k : ℕ) (s : List ℕ) → kindOf k ≡ f → startHolds (a ∷ b ∷ v ∷ k ∷ s) ≡ false → recordIn f (a ∷ b ∷ v ∷ k ∷ s) ≡ Bad
+no-header Unknown a b v k s e h = refl
+no-header (Known x) a b v k s e h = rw (false-unless (header a b v (lengthOf x)) (λ g. no h (header-begins a b v k s x e g)))
 
-second-fault : (a b : ℕ) (s : List ℕ) → someLength b ≡ false → decodeOf (a ∷ b ∷ s) ≡ Bad
-unfolding decodeOf
-second-fault a b [] h = rw (h, and-false (eqb a 0))
-second-fault a b (v ∷ []) h = rw (h, and-false (eqb a 0))
-second-fault a b (v ∷ k ∷ s) h = four a b v k s ∙ rw (second-header a b v (kindOf k) h)
+no-start : {s : List ℕ} → Seen s → startHolds s ≡ false → decodeOf s ≡ Bad
+no-start (few s l) h = by-start s l ∙ rw h
+no-start (enough a b v k s) h = four a b v k s ∙ no-header (kindOf k) a b v k s refl h
 
-third-fault : (a b v : ℕ) (s : List ℕ) → eqb v 1 ≡ false → decodeOf (a ∷ b ∷ v ∷ s) ≡ Bad
-unfolding decodeOf
-third-fault a b v [] h = rw (h, and-false (someLength b), and-false (eqb a 0))
-third-fault a b v (k ∷ s) h = four a b v k s ∙ rw (third-header a b v (kindOf k) h)
+start-by : (holds : Bool) → cond holds Unfinished Bad ≡ Bad → holds ≡ false
+start-by true h = let z : _≡_ {A = ℕ} 0 1 = cc in absurd (omega arith)
+start-by false h = refl
 
-data Fault (p q r : Bool) : Type 0 where
-  first : p ≡ false → Fault p q r
-  second : q ≡ false → Fault p q r
-  third : r ≡ false → Fault p q r
+header-by : (holds short : Bool) (c : Call) (n : ℕ) → byHeader holds short c n ≡ Bad → holds ≡ false
+header-by true true c n h = let z : _≡_ {A = ℕ} 0 1 = cc in absurd (omega arith)
+header-by true false c n h = let z : _≡_ {A = ℕ} 0 1 = cc in absurd (omega arith)
+header-by false short c n h = refl
 
-find-fault : (p q r : Bool) → cond (p && (q && r)) Unfinished Bad ≡ Bad → Fault p q r
-find-fault false q r h = first refl
-find-fault true false r h = second refl
-find-fault true true false h = third refl
-find-fault true true true h = let z : _≡_ {A = ℕ} 0 1 = cc in absurd (omega arith)
-
-one-byte : (a : ℕ) (t : List ℕ) → Fault (eqb a 0) true true → decodeOf (a ∷ t) ≡ Bad
-one-byte a t (first e) = first-fault a t e
-one-byte a t (second e) = never (sym e)
-one-byte a t (third e) = never (sym e)
-
-two-bytes : (a b : ℕ) (t : List ℕ) → Fault (eqb a 0) (someLength b) true → decodeOf (a ∷ b ∷ t) ≡ Bad
-two-bytes a b t (first e) = first-fault a (b ∷ t) e
-two-bytes a b t (second e) = second-fault a b t e
-two-bytes a b t (third e) = never (sym e)
-
-three-bytes : (a b v : ℕ) (t : List ℕ) → Fault (eqb a 0) (someLength b) (eqb v 1) → decodeOf (a ∷ b ∷ v ∷ t) ≡ Bad
-three-bytes a b v t (first e) = first-fault a (b ∷ v ∷ t) e
-three-bytes a b v t (second e) = second-fault a b (v ∷ t) e
-three-bytes a b v t (third e) = third-fault a b v t e
-
--- four bytes: the header does not hold, or the kind is unknown, whatever follows
-more-bytes : (a b v k : ℕ) (s t : List ℕ) (holds short : Bool) (x : Decoded)
-    → header a b v (lengthOf (kindOf k)) ≡ holds
-    → ltb (length (a ∷ b ∷ v ∷ k ∷ s)) (2 + lengthOf (kindOf k)) ≡ short
-    → askedIn (kindOf k) (a ∷ b ∷ v ∷ k ∷ s) ≡ x
-    → byHeader holds short x ≡ Bad
-    → decodeOf (a ∷ b ∷ v ∷ k ∷ s ++ t) ≡ Bad
-more-bytes a b v k s t false short x p q r h = four a b v k (s ++ t) ∙ rw p
-more-bytes a b v k s t true true x p q r h = let z : _≡_ {A = ℕ} 0 1 = cc in absurd (omega arith)
-more-bytes a b v k s t true false x p q r h =
+-- a header does not hang on what follows it
+header-stays : (f : Found) (a b v k : ℕ) (s t : List ℕ) → recordIn f (a ∷ b ∷ v ∷ k ∷ s) ≡ Bad → recordIn f (a ∷ b ∷ v ∷ k ∷ s ++ t) ≡ Bad
+header-stays Unknown a b v k s t h = refl
+header-stays (Known x) a b v k s t h =
     let bytes = a ∷ b ∷ v ∷ k ∷ s in
-    let whole = ltb-false (length bytes) (2 + lengthOf (kindOf k)) q in
-    let longer : 2 + lengthOf (kindOf k) ≤ length (bytes ++ t) = simp length-append (omega arith) in
-    four a b v k (s ++ t) ∙ rw (p, le-ltb (length (bytes ++ t)) (2 + lengthOf (kindOf k)) longer, asked-stays (kindOf k) bytes t whole, r) h
+    rw (header-by (header a b v (lengthOf x)) (ltb (length bytes) (2 + lengthOf x)) (askedIn x bytes) (2 + lengthOf x) h)
+
+stays : {s : List ℕ} → Seen s → (t : List ℕ) → decodeOf s ≡ Bad → decodeOf (s ++ t) ≡ Bad
+stays (few s l) t h =
+    let none = start-by (startHolds s) (sym (by-start s l) ∙ h) in
+    no-start (seen (s ++ t)) (false-unless (startHolds (s ++ t)) (λ g. no none (began s t g)))
+stays (enough a b v k s) t h = four a b v k (s ++ t) ∙ header-stays (kindOf k) a b v k s t (sym (four a b v k s) ∙ h)
 
 -- what is bad stays bad
 pub bad-stays : (s t : List ℕ) → decodeOf s ≡ Bad → decodeOf (s ++ t) ≡ Bad
-unfolding decodeOf
-bad-stays [] t h = let z : _≡_ {A = ℕ} 0 1 = cc in absurd (omega arith)
-bad-stays (a ∷ []) t h = one-byte a t (find-fault (eqb a 0) true true h)
-bad-stays (a ∷ b ∷ []) t h = two-bytes a b t (find-fault (eqb a 0) (someLength b) true h)
-bad-stays (a ∷ b ∷ v ∷ []) t h = three-bytes a b v t (find-fault (eqb a 0) (someLength b) (eqb v 1) h)
-bad-stays (a ∷ b ∷ v ∷ k ∷ s) t h = more-bytes a b v k s t _ _ _ refl refl refl (sym (four a b v k s) ∙ h)
+bad-stays s t h = stays (seen s) t h

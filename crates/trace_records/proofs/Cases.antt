@@ -5,8 +5,8 @@ use Prim.Native.Nat.{ℕ}
 use Rattle.calls.specs.declared.call.Call.the-variants as call
 use Rattle.trace_records.specs.declared.decoding.Decoded.{Decoded}
 use Rattle.trace_records.specs.declared.decoding.Decoded.the-variants.{Record, Bad, Unfinished}
-use Rattle.trace_kinds.specs.Kind.{kindOf, lengthOf}
-use Rattle.trace_records.specs.Record.{askedIn, decodeOf}
+use Rattle.trace_kinds.specs.Kind.{kindOf}
+use Rattle.trace_records.specs.Record.{decodeOf}
 
 -- eight bytes with all places different
 abbrev pub bytes : List ℕ
@@ -45,9 +45,9 @@ cases =
     ∷ recordCase (1 ∷ 3 ∷ 1 ∷ 1 ∷ 0 ∷ []) Bad
     ∷ recordCase (0 ∷ 3 ∷ 0 ∷ 1 ∷ 0 ∷ []) Bad
     ∷ recordCase (0 ∷ 3 ∷ 1 ∷ 0 ∷ 0 ∷ []) Bad
-    ∷ recordCase (0 ∷ 3 ∷ 1 ∷ 11 ∷ 0 ∷ []) Bad
+    ∷ recordCase (0 ∷ 3 ∷ 1 ∷ 255 ∷ 0 ∷ []) Bad
     ∷ []
 
 pub record-cases : map found cases ≡ map expected cases
-unfolding decodeOf kindOf lengthOf askedIn
+unfolding decodeOf kindOf
 record-cases = refl

@@ -5,12 +5,14 @@ use mathlib.Core.List.{List, [], _∷_}
 use Prim.Native.Nat.{ℕ, _+_, _*_}
 use lib.Dec.{eqb, ltb}
 use lib.ListN.{length, getD, take, drop}
-use Rattle.functions.specs.Table.{registers}
+use Rattle.functions.specs.Rules.{registers}
 use Rattle.calls.specs.declared.call.Call.{Call}
 use Rattle.calls.specs.declared.call.Call.the-variants as call
-use Rattle.trace_kinds.specs.Kind.{kindOf, lengthOf, startHolds}
+use Rattle.trace_kinds.specs.Kind.{version, kindOf, argumentsOf, lengthOf, startHolds}
 use Rattle.trace_kinds.specs.declared.kinds.Kind.{Kind}
-use Rattle.trace_kinds.specs.declared.kinds.Kind.the-variants.{Create, Donate, Run, Hypercall, Abort, Remove, Cleared, Access, RegisterRead, RegisterWrite, Unknown}
+use Rattle.trace_kinds.specs.declared.kinds.Kind.the-variants.{Create, Donate, Run, Hypercall, Abort, Remove, Cleared, Access, RegisterRead, RegisterWrite}
+use Rattle.trace_kinds.specs.declared.kinds.Found.{Found}
+use Rattle.trace_kinds.specs.declared.kinds.Found.the-variants.{Known, Unknown}
 use Rattle.trace_records.specs.declared.decoding.Decoded.{Decoded}
 use Rattle.trace_records.specs.declared.decoding.Decoded.the-variants as decoded
 
@@ -29,60 +31,50 @@ lengthIn s = bigEndian (take 2 s)
 abbrev pub versionIn : List ℕ → ℕ
 versionIn s = getD s 2 0
 
-abbrev pub kindIn : List ℕ → Kind
+abbrev pub kindIn : List ℕ → Found
 kindIn s = kindOf (getD s 3 0)
 
 abbrev pub slotIn : List ℕ → ℕ
 slotIn s = getD s 4 0
 
-abbrev pub argumentIn : List ℕ → ℕ → ℕ
-argumentIn s k = bigEndian (take 8 (drop (5 + 8 * k) s))
+-- argument k, from 0, of a record that has n; one that it does not have counts as 0
+abbrev pub argumentIn : List ℕ → ℕ → ℕ → ℕ
+argumentIn s n k = cond (ltb k n) (bigEndian (take 8 (drop (5 + 8 * k) s))) 0
 
--- the calls of records that have several fields
-abbrev pub donationIn : List ℕ → Call
-donationIn s = call.Donate (slotIn s) (argumentIn s 0) (argumentIn s 1)
+-- what a record asks for, by its slot byte and its arguments. "Create, cleared and access ignore the slot byte."
+abbrev pub callOf : Kind → ℕ → ℕ → ℕ → ℕ → ℕ → Call
+callOf Create slot a b c d = call.Create
+callOf Donate slot a b c d = call.Donate slot a b
+callOf Run slot a b c d = call.Run slot
+callOf Hypercall slot a b c d = call.Hypercall slot (registers a b c d)
+callOf Abort slot a b c d = call.Abort slot a
+callOf Remove slot a b c d = call.Remove slot
+callOf Cleared slot a b c d = call.Cleared a
+callOf Access slot a b c d = call.Access a
+callOf RegisterRead slot a b c d = call.RegisterRead slot a
+callOf RegisterWrite slot a b c d = call.RegisterWrite slot a b
 
-abbrev pub hypercallIn : List ℕ → Call
-hypercallIn s =
-    call.Hypercall (slotIn s) (registers (argumentIn s 0) (argumentIn s 1) (argumentIn s 2) (argumentIn s 3))
+abbrev pub askedIn : Kind → List ℕ → Call
+askedIn k s =
+    let n = argumentsOf k in
+    callOf k (slotIn s) (argumentIn s n 0) (argumentIn s n 1) (argumentIn s n 2) (argumentIn s n 3)
 
-abbrev pub abortIn : List ℕ → Call
-abortIn s = call.Abort (slotIn s) (argumentIn s 0)
-
-abbrev pub registerReadIn : List ℕ → Call
-registerReadIn s = call.RegisterRead (slotIn s) (argumentIn s 0)
-
-abbrev pub registerWriteIn : List ℕ → Call
-registerWriteIn s = call.RegisterWrite (slotIn s) (argumentIn s 0) (argumentIn s 1)
-
--- a good record of a kind: its call, and where the next begins
-abbrev pub good : Kind → Call → Decoded
-good k c = decoded.Record c (2 + lengthOf k)
-
--- what a whole record asks for. "Create, cleared and access ignore the slot byte."
-unfoldable pub askedIn : Kind → List ℕ → Decoded
-askedIn Create s = good Create call.Create
-askedIn Donate s = good Donate (donationIn s)
-askedIn Run s = good Run (call.Run (slotIn s))
-askedIn Hypercall s = good Hypercall (hypercallIn s)
-askedIn Abort s = good Abort (abortIn s)
-askedIn Remove s = good Remove (call.Remove (slotIn s))
-askedIn Cleared s = good Cleared (call.Cleared (argumentIn s 0))
-askedIn Access s = good Access (call.Access (argumentIn s 0))
-askedIn RegisterRead s = good RegisterRead (registerReadIn s)
-askedIn RegisterWrite s = good RegisterWrite (registerWriteIn s)
-askedIn Unknown s = decoded.Bad
-
--- "another length, version or kind prints `bad`": the first four bytes are those of a record, of a kind that has the length n
+-- "another length, version or kind prints `bad`": the first bytes are those of a record of length n
 abbrev pub headerHolds : List ℕ → ℕ → Bool
-headerHolds s n = ltb 0 n && (eqb (lengthIn s) n && eqb (versionIn s) 1)
+headerHolds s n = eqb (lengthIn s) n && eqb (versionIn s) version
+
+-- four bytes or more, by the kind found in them: a good record has a call, and the next begins behind it
+abbrev pub recordIn : Found → List ℕ → Decoded
+recordIn Unknown s = decoded.Bad
+recordIn (Known k) s =
+    let size = 2 + lengthOf k in
+    cond (headerHolds s (lengthOf k))
+    (cond (ltb (length s) size) decoded.Unfinished (decoded.Record (askedIn k s) size))
+    decoded.Bad
 
 -- what the first bytes of a log are: bad as soon as no bytes that follow make them a good record, unfinished while some do
 unfoldable pub decodeOf : List ℕ → Decoded
 decodeOf s =
-    let n = lengthOf (kindIn s) in
     cond (ltb (length s) 4)
     (cond (startHolds s) decoded.Unfinished decoded.Bad)
-    (cond (headerHolds s n)
-    (cond (ltb (length s) (2 + n)) decoded.Unfinished (askedIn (kindIn s) s))
-    decoded.Bad)
+    (recordIn (kindIn s) s)

@@ -2,16 +2,13 @@ ghost use mathlib.Core.Path.{_≡_};
 ghost use Prim.Native.Nat.{_+_, _≤_};
 ghost use lib.ListN.{length};
 ghost use Rattle.trace_kinds.specs.Kind.{lengthOf};
-ghost use Rattle.trace_records.specs.Record.{askedIn, decodeOf};
+ghost use Rattle.trace_records.specs.Record.{callOf, askedIn, decodeOf};
 use crate::fields::argument;
 use crate::fields::header_holds;
 use crate::fields::slot;
-use crate::requests::abort;
-use crate::requests::donation;
-use crate::requests::hypercall;
-use crate::requests::register_read;
-use crate::requests::register_write;
 use calls::Call;
+use functions::Registers;
+use trace_kinds::Found;
 use trace_kinds::Kind;
 use trace_kinds::start_holds;
 
@@ -35,40 +32,67 @@ pub fn decode(s: &[u8]) -> Decoded
         }
         return Decoded::Bad;
     }
-    let kind = Kind::of(s[3]);
+    let found = Kind::of(s[3]);
+    let Found::Known(kind) = found else {
+        return Decoded::Bad;
+    };
     let length = kind.length();
     if header_holds(s, length) {
-        if s.len() < 2 + length {
+        let size = 2 + length;
+        if s.len() < size {
             return Decoded::Unfinished;
         }
-        return asked(kind, s);
+        return Decoded::Record(asked(kind, s), size);
     }
     Decoded::Bad
 }
 
 // What a whole record of a kind asks for.
-fn asked(kind: Kind, s: &[u8]) -> Decoded
+fn asked(kind: Kind, s: &[u8]) -> Call
     requires { ⌜ 2 + lengthOf kind ≤ length (now s) ⌝ }
     ensures { λ r. ⌜ r ≡ askedIn kind (now (s .entry)) ⌝ }
 {
-    let size = 2 + kind.length();
+    let n = kind.arguments();
+    call(
+        kind,
+        slot(s),
+        argument(s, n, 0),
+        argument(s, n, 1),
+        argument(s, n, 2),
+        argument(s, n, 3),
+    )
+}
+
+// The call of a kind, by the slot byte and the arguments.
+fn call(kind: Kind, slot: u64, a: u64, b: u64, c: u64, d: u64) -> Call
+    ensures { λ r. ⌜ r ≡ callOf kind slot a b c d ⌝ }
+{
     match kind {
-        Kind::Create => Decoded::Record(Call::Create, size),
-        Kind::Donate => Decoded::Record(donation(s), size),
-        Kind::Run => Decoded::Record(Call::Run { slot: slot(s) }, size),
-        Kind::Hypercall => Decoded::Record(hypercall(s), size),
-        Kind::Abort => Decoded::Record(abort(s), size),
-        Kind::Remove => Decoded::Record(Call::Remove { slot: slot(s) }, size),
-        Kind::Cleared => {
-            let frame = argument(s, 0);
-            Decoded::Record(Call::Cleared { frame }, size)
-        }
-        Kind::Access => {
-            let frame = argument(s, 0);
-            Decoded::Record(Call::Access { frame }, size)
-        }
-        Kind::RegisterRead => Decoded::Record(register_read(s), size),
-        Kind::RegisterWrite => Decoded::Record(register_write(s), size),
-        Kind::Unknown => Decoded::Bad,
+        Kind::Create => Call::Create,
+        Kind::Donate => Call::Donate {
+            slot,
+            frame: a,
+            granule: b,
+        },
+        Kind::Run => Call::Run { slot },
+        Kind::Hypercall => Call::Hypercall {
+            slot,
+            registers: Registers {
+                r0: a,
+                r1: b,
+                r2: c,
+                r3: d,
+            },
+        },
+        Kind::Abort => Call::Abort { slot, ipa: a },
+        Kind::Remove => Call::Remove { slot },
+        Kind::Cleared => Call::Cleared { frame: a },
+        Kind::Access => Call::Access { frame: a },
+        Kind::RegisterRead => Call::RegisterRead { slot, register: a },
+        Kind::RegisterWrite => Call::RegisterWrite {
+            slot,
+            register: a,
+            value: b,
+        },
     }
 }

@@ -2,6 +2,7 @@ ghost use mathlib.Core.Path.{_≡_};
 ghost use Prim.Native.Nat.{_+_, _*_, _≤_};
 ghost use lib.ListN.{length};
 ghost use Rattle.trace_records.specs.Record.{bigEndian, slotIn, argumentIn, headerHolds};
+use trace_kinds::VERSION;
 
 fn wide(byte: u8) -> u64
     ensures { λ r. ⌜ r ≡ byte ⌝ }
@@ -31,26 +32,26 @@ pub(crate) fn slot(s: &[u8]) -> u64
     wide(s[4])
 }
 
-// An argument of a record, numbered from 0.
-pub(crate) fn argument(s: &[u8], number: usize) -> u64
-    requires { ⌜ 13 + 8 * number ≤ length (now s) ⌝ }
-    ensures { λ r. ⌜ r ≡ argumentIn (now (s .entry)) number ⌝ }
+// An argument of a record, numbered from 0, by how many it has; one that it does not have counts as 0.
+pub(crate) fn argument(s: &[u8], count: u8, number: u8) -> u64
+    requires { ⌜ 5 + 8 * count ≤ length (now s) ⌝ }
+    ensures { λ r. ⌜ r ≡ argumentIn (now (s .entry)) count number ⌝ }
 {
-    let start = 5 + 8 * number;
-    let end = start + 8;
-    big_endian(&s[start..end])
+    if number < count {
+        let start = 5 + 8 * (number as usize);
+        let end = start + 8;
+        return big_endian(&s[start..end]);
+    }
+    0
 }
 
-// Whether the first four bytes are those of a record, of a kind that has this length.
+// Whether the first bytes are those of a record of this length.
 pub(crate) fn header_holds(s: &[u8], expected: usize) -> bool
     requires { ⌜ 4 ≤ length (now s) ⌝ }
     ensures { λ r. ⌜ r ≡ headerHolds (now (s .entry)) expected ⌝ }
 {
-    if 0 < expected {
-        if big_endian(&s[0..2]) == expected as u64 {
-            return s[2] == 1;
-        }
-        return false;
+    if big_endian(&s[0..2]) == expected as u64 {
+        return s[2] == VERSION;
     }
     false
 }

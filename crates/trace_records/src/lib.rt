@@ -2,7 +2,6 @@
 // It rests on trace_kinds for the kinds of records, and on calls and functions for what one asks for. It makes no call, and keeps nothing.
 mod decoding;
 mod fields;
-mod requests;
 
 pub use decoding::Decoded;
 pub use decoding::decode;

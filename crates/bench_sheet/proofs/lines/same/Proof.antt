@@ -1,7 +1,7 @@
 -- Number by number: where one differs the answer is false, and five that agree make the same `Numbers`.
 use mathlib.Core.Path.{_≡_, ap}
 use borrow.Author.Tests.{eq-eqb, eqb-true}
-use Rattle.records.specs.declared.answer.Numbers.{Numbers}
+use Rattle.answers.specs.declared.answer.Numbers.{Numbers}
 use Rattle.bench_sheet.proofs.lines.same.Statement.{statement}
 use Rattle.bench_sheet.proofs.lines.same.Tie as tie
 

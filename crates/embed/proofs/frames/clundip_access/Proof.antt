@@ -1,23 +1,17 @@
--- The answer is that of access, which takes no records.
-use mathlib.Core.Path.{refl}
-use Rattle.host_frames.specs.Calls.{hostAccessOf}
-use Rattle.record_words.specs.Words.{monitorIn}
-use Rattle.embed.proofs.OneRecord.{access-kept}
+-- What is decided with any record, which is no change of one.
+use Rattle.host_frames.specs.Calls.{accessCommand, hostAccessOf}
 use Rattle.embed.proofs.LentLaws.{lent-kept}
+use mathlib.Core.Path.{refl}
+use Rattle.records.specs.Monitor.{guestOf}
+use Rattle.record_words.specs.Words.{monitorIn}
 use borrow.Author.Needs.{needs}
 use Rattle.embed.proofs.frames.clundip_access.Statement.{statement}
 use Rattle.embed.proofs.frames.clundip_access.Tie as tie
 
-access-requires : tie.Need-access-requires
-access-requires c κs = search needs
-
-put-answer-requires : tie.Need-put-answer-requires
-put-answer-requires c κs = search needs
-
 returns : tie.Need-returns
+unfolding hostAccessOf
 returns c =
-    let entry = c .before .before .before .before .before .args in
-    λ w. lent-kept (hostAccessOf (entry .frame)) w (entry .frames .now) (entry .map .now) (monitorIn w) refl _ _ _ _ (c .before .access .ensures (monitorIn w)) _ (c .put-answer .ensures) (access-kept (entry .frame) _)
+    λ records. lent-kept (accessCommand (c .before .before .before .before .before .args .frame)) records (c .before .before .before .before .before .args .frames .now) (c .before .before .before .before .before .args .map .now) 8 refl (guestOf (monitorIn records) 8) refl _ _ _ (c .before .decide-access .ensures 8 (guestOf (monitorIn records) 8)) _ (c .put-answer .ensures) refl
 
 pub clundip-access-spec : {M : Type 1} → statement M
-clundip-access-spec = tie.close (tie.spec access-requires put-answer-requires returns)
+clundip-access-spec = tie.close (tie.spec (λ c κs. search needs) (λ c κs. search needs) returns)

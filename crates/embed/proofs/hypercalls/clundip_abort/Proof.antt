@@ -1,27 +1,15 @@
--- An abort changes no record.
-use Rattle.guest_aborts.specs.Calls.{abortOf}
-use Rattle.embed.proofs.OneRecord.{abort-kept}
+-- What is decided on the record of the slot, which is no change of it.
+use Rattle.guest_aborts.specs.Calls.{abortCommand, abortOf}
 use Rattle.embed.proofs.LentLaws.{lent-kept}
+use mathlib.Core.Path.{refl}
 use borrow.Author.Needs.{needs}
 use Rattle.embed.proofs.hypercalls.clundip_abort.Statement.{statement}
 use Rattle.embed.proofs.hypercalls.clundip_abort.Tie as tie
 
-monitor-in-requires : tie.Need-monitor-in-requires
-monitor-in-requires c κs = search needs
-
-abort-requires : tie.Need-abort-requires
-abort-requires c κs = search needs
-
-put-answer-requires : tie.Need-put-answer-requires
-put-answer-requires c κs = search needs
-
 returns : tie.Need-returns
+unfolding abortOf
 returns c =
-    let made = c .before .before in
-    let read = made .before in
-    let entry = read .before .before .before .args in
-    lent-kept (abortOf (entry .slot) (entry .ipa)) (entry .records .now) (entry .frames .now) (entry .map .now) _ (read .monitor-in .ensures) _ _ _ _ (made .abort .ensures) _ (c .put-answer .ensures) (abort-kept (entry .slot) (entry .ipa) _)
+    lent-kept (abortCommand (c .before .before .before .before .before .before .args .slot) (c .before .before .before .before .before .before .args .ipa)) (c .before .before .before .before .before .before .args .records .now) (c .before .before .before .before .before .before .args .frames .now) (c .before .before .before .before .before .before .args .map .now) (c .before .before .before .before .before .before .args .slot) refl _ (c .before .before .before .guest-in .ensures) _ _ _ (c .before .decide-abort .ensures) _ (c .put-answer .ensures) refl
 
 pub clundip-abort-spec : {M : Type 1} → statement M
-clundip-abort-spec =
-    tie.close (tie.spec monitor-in-requires abort-requires put-answer-requires returns)
+clundip-abort-spec = tie.close (tie.spec (λ c κs. search needs) (λ c κs. search needs) (λ c κs. search needs) returns)

@@ -1,27 +1,15 @@
--- A write changes the record of its slot alone, and takes no table.
-use Rattle.host_registers.specs.Registers.{registerWriteOf}
-use Rattle.embed.proofs.OneRecord.{write-one}
+-- What is decided on the record of the slot, with its change put in.
+use Rattle.host_registers.specs.Registers.{writeCommand, registerWriteOf}
 use Rattle.embed.proofs.LentLaws.{lent-put}
+use mathlib.Core.Path.{refl}
 use borrow.Author.Needs.{needs}
 use Rattle.embed.proofs.registers.clundip_register_write.Statement.{statement}
 use Rattle.embed.proofs.registers.clundip_register_write.Tie as tie
 
-monitor-in-requires : tie.Need-monitor-in-requires
-monitor-in-requires c κs = search needs
-
-register-write-requires : tie.Need-register-write-requires
-register-write-requires c κs = search needs
-
-put-reply-requires : tie.Need-put-reply-requires
-put-reply-requires c κs = search needs
-
 returns : tie.Need-returns
+unfolding registerWriteOf
 returns c =
-    let made = c .before .before .before in
-    let read = made .before in
-    let entry = read .before .before .args in
-    λ frames map. lent-put (registerWriteOf (entry .slot) (entry .register) (entry .value)) (entry .records .now) frames map _ (read .monitor-in .ensures) _ _ _ _ (made .register-write .ensures frames map) _ (c .put-reply .ensures .1) (entry .slot) (write-one (entry .slot) (entry .register) (entry .value) _) _ (c .put-reply .ensures .0)
+    λ frames map. lent-put (writeCommand (c .before .before .before .before .before .before .before .args .slot) (c .before .before .before .before .before .before .before .args .register) (c .before .before .before .before .before .before .before .args .value)) (c .before .before .before .before .before .before .before .args .records .now) frames map (c .before .before .before .before .before .before .before .args .slot) refl _ (c .before .before .before .before .before .guest-in .ensures) _ _ _ (c .before .before .before .before .decide-register-write .ensures frames map) _ (c .put-answer .ensures) _ (c .before .before .put-change .ensures)
 
 pub clundip-register-write-spec : {M : Type 1} → statement M
-clundip-register-write-spec =
-    tie.close (tie.spec monitor-in-requires register-write-requires put-reply-requires returns)
+clundip-register-write-spec = tie.close (tie.spec (λ c κs. search needs) (λ c κs. search needs) (λ c κs. search needs) (λ c κs. search needs) returns)

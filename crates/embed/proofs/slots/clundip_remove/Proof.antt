@@ -1,40 +1,15 @@
--- Remove changes the record of its slot alone.
-use Rattle.host_removal.specs.Calls.{removeOf}
-use Rattle.embed.proofs.OneRecord.{remove-one}
+-- What is decided on the record of the slot, with its change put in.
+use Rattle.host_removal.specs.Calls.{removeCommand, removeOf}
 use Rattle.embed.proofs.LentLaws.{lent-put}
+use mathlib.Core.Path.{refl}
 use borrow.Author.Needs.{needs}
 use Rattle.embed.proofs.slots.clundip_remove.Statement.{statement}
 use Rattle.embed.proofs.slots.clundip_remove.Tie as tie
 
-monitor-in-requires : tie.Need-monitor-in-requires
-monitor-in-requires c κs = search needs
-
-remove-requires : tie.Need-remove-requires
-remove-requires c κs = search needs
-
-put-reply-requires : tie.Need-put-reply-requires
-put-reply-requires c κs = search needs
-
-same-length : tie.Need-same-length
-same-length c = search needs
-
-same-length-2 : tie.Need-same-length-2
-same-length-2 c = search needs
-
 returns : tie.Need-returns
+unfolding removeOf
 returns c =
-    let made = c .before .before .before .before .before .before .before in
-    let read = made .before .before .before in
-    let entry = read .before .before .before .before .args in
-    lent-put (removeOf (entry .slot)) (entry .records .now) (entry .frames .now) (entry .map .now) _ (read .monitor-in .ensures) _ _ _ _ (made .remove .ensures) _ (c .put-reply .ensures .1) (entry .slot) (remove-one (entry .slot) _) _ (c .put-reply .ensures .0)
+    lent-put (removeCommand (c .before .before .before .before .before .before .before .before .before .before .before .before .before .before .before .args .slot)) (c .before .before .before .before .before .before .before .before .before .before .before .before .before .before .before .args .records .now) (c .before .before .before .before .before .before .before .before .before .before .before .before .before .before .before .args .frames .now) (c .before .before .before .before .before .before .before .before .before .before .before .before .before .before .before .args .map .now) (c .before .before .before .before .before .before .before .before .before .before .before .before .before .before .before .args .slot) refl _ (c .before .before .before .before .before .before .before .before .before .before .before .guest-in .ensures) _ _ _ (c .before .before .before .before .before .before .before .before .decide-remove .ensures) _ (c .put-answer .ensures) _ (c .before .before .put-change .ensures)
 
 pub clundip-remove-spec : {M : Type 1} → statement M
-clundip-remove-spec =
-    tie.close
-    (tie.spec
-    monitor-in-requires
-    remove-requires
-    put-reply-requires
-    same-length
-    same-length-2
-    returns)
+clundip-remove-spec = tie.close (tie.spec (λ c κs. search needs) (λ c κs. search needs) (λ c κs. search needs) (λ c κs. search needs) (λ c. search needs) (λ c. search needs) returns)

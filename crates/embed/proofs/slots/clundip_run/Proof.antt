@@ -1,26 +1,15 @@
--- Run changes the record of its slot alone, and takes no table.
-use Rattle.host_guests.specs.Calls.{runOf}
-use Rattle.embed.proofs.OneRecord.{run-one}
+-- What is decided on the record of the slot, with its change put in.
+use Rattle.host_guests.specs.Calls.{runCommand, runOf}
 use Rattle.embed.proofs.LentLaws.{lent-put}
+use mathlib.Core.Path.{refl}
 use borrow.Author.Needs.{needs}
 use Rattle.embed.proofs.slots.clundip_run.Statement.{statement}
 use Rattle.embed.proofs.slots.clundip_run.Tie as tie
 
-monitor-in-requires : tie.Need-monitor-in-requires
-monitor-in-requires c κs = search needs
-
-run-requires : tie.Need-run-requires
-run-requires c κs = search needs
-
-put-reply-requires : tie.Need-put-reply-requires
-put-reply-requires c κs = search needs
-
 returns : tie.Need-returns
+unfolding runOf
 returns c =
-    let made = c .before .before .before in
-    let read = made .before in
-    let entry = read .before .before .args in
-    λ frames map. lent-put (runOf (entry .slot)) (entry .records .now) frames map _ (read .monitor-in .ensures) _ _ _ _ (made .run .ensures frames map) _ (c .put-reply .ensures .1) (entry .slot) (run-one (entry .slot) _) _ (c .put-reply .ensures .0)
+    λ frames map. lent-put (runCommand (c .before .before .before .before .before .before .before .args .slot)) (c .before .before .before .before .before .before .before .args .records .now) frames map (c .before .before .before .before .before .before .before .args .slot) refl _ (c .before .before .before .before .before .guest-in .ensures) _ _ _ (c .before .before .before .before .decide-run .ensures frames map) _ (c .put-answer .ensures) _ (c .before .before .put-change .ensures)
 
 pub clundip-run-spec : {M : Type 1} → statement M
-clundip-run-spec = tie.close (tie.spec monitor-in-requires run-requires put-reply-requires returns)
+clundip-run-spec = tie.close (tie.spec (λ c κs. search needs) (λ c κs. search needs) (λ c κs. search needs) (λ c κs. search needs) returns)

@@ -1,40 +1,20 @@
--- By the admission.
-use Rattle.guest_callers.proofs.CallerLaws.{caller-passed}
-use Rattle.guest_aborts.proofs.AbortLaws.{abort-refused, abort-passed}
-use Rattle.records.specs.State.{state}
+-- What is decided on the record of the slot, applied.
+use Rattle.guest_aborts.specs.Calls.{abortCommand, abortOf}
+use Rattle.commands.proofs.CommandLaws.{applying}
+use Rattle.commands.specs.State.{state}
+use mathlib.Core.Path.{refl}
 use borrow.Author.Needs.{needs}
 use Rattle.guest_aborts.proofs.aborts.abort.Statement.{statement}
 use Rattle.guest_aborts.proofs.aborts.abort.Tie as tie
 
-guest-requires : tie.Need-guest-requires
-guest-requires c κs = search needs
-
-caller-admission-requires : tie.Need-caller-admission-requires
-caller-admission-requires c κs = search needs
-
-enum-known-answer : tie.Need-enum-known-answer
-enum-known-answer c = search needs
-
-enum-told : tie.Need-enum-told
-enum-told c = search needs
-
-guest-access-requires : tie.Need-guest-access-requires
-guest-access-requires c κs = caller-passed _ (state (c .before .before .before .before .before .before .args .frames .now) (c .before .before .before .before .before .before .args .map .now) (c .before .before .before .before .before .before .args .monitor)) _ (c .before .before .before .guest .ensures) _ (c .before .before .caller-admission .ensures) (c .enum-told .given .1)
-
 returns : tie.Need-returns
-returns c = abort-refused _ (state (c .before .before .before .before .before .before .before .args .frames .now) (c .before .before .before .before .before .before .before .args .map .now) (c .before .before .before .before .before .before .before .args .monitor)) _ (c .before .before .before .before .guest .ensures) _ (c .before .before .before .caller-admission .ensures) _ _ (c .before .answer .given .1)
-
-returns-2 : tie.Need-returns-2
-returns-2 c = abort-passed _ (state (c .before .before .before .before .before .before .before .args .frames .now) (c .before .before .before .before .before .before .before .args .map .now) (c .before .before .before .before .before .before .before .args .monitor)) _ (c .before .before .before .before .guest .ensures) _ (c .before .before .before .caller-admission .ensures) _ _ (c .before .enum-told .given .1) (c .guest-access .ensures)
+unfolding abortOf
+returns c =
+    let decided = c .before in
+    let own = decided .before in
+    let entry = own .before .before .before .args in
+    rw (c .reply .ensures)
+    (applying (abortCommand (entry .slot) (entry .ipa)) (state (entry .frames .now) (entry .map .now) (entry .monitor)) (entry .slot) _ _ refl (own .guest .ensures) (decided .decide-abort .ensures))
 
 pub abort-spec : {M : Type 1} → statement M
-abort-spec =
-    tie.close
-    (tie.spec
-    guest-requires
-    caller-admission-requires
-    enum-known-answer
-    enum-told
-    guest-access-requires
-    returns
-    returns-2)
+abort-spec = tie.close (tie.spec (λ c κs. search needs) (λ c κs. search needs) (λ c κs. search needs) returns)

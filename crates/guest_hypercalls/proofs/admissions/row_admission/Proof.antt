@@ -1,27 +1,9 @@
 -- Test by test, in their order.
-use Rattle.records.proofs.TestLaws.{tests-in-order}
+use Rattle.commands.proofs.TestLaws.{tests-in-order}
 use Rattle.guest_hypercalls.specs.Calls.{rowTests}
 use borrow.Author.Needs.{needs}
 use Rattle.guest_hypercalls.proofs.admissions.row_admission.Statement.{statement}
 use Rattle.guest_hypercalls.proofs.admissions.row_admission.Tie as tie
-
-registers-hold-requires : tie.Need-registers-hold-requires
-registers-hold-requires c κs = search needs
-
-answer-requires : tie.Need-answer-requires
-answer-requires c κs = search needs
-
-check-requires : tie.Need-check-requires
-check-requires c κs = search needs
-
-permits-requires : tie.Need-permits-requires
-permits-requires c κs = search needs
-
-answer-requires-2 : tie.Need-answer-requires-2
-answer-requires-2 c κs = search needs
-
-check-requires-2 : tie.Need-check-requires-2
-check-requires-2 c κs = search needs
 
 returns : tie.Need-returns
 returns c =
@@ -32,11 +14,4 @@ returns c =
 pub row-admission-spec : {M : Type 1} → statement M
 row-admission-spec =
     tie.close
-    (tie.spec
-    registers-hold-requires
-    answer-requires
-    check-requires
-    permits-requires
-    answer-requires-2
-    check-requires-2
-    returns)
+    (tie.spec (λ c κs. search needs) (λ c κs. search needs) (λ c κs. search needs) (λ c κs. search needs) (λ c κs. search needs) (λ c κs. search needs) returns)

@@ -16,18 +16,6 @@ returns-2 c = rw (c .if2 .left) (some-done _ _ _ _ (c .before .if1 .taken))
 enum-told : tie.Need-enum-told
 enum-told c = search needs
 
-answer-requires : tie.Need-answer-requires
-answer-requires c κs = search needs
-
-enum-told-2 : tie.Need-enum-told-2
-enum-told-2 c = search needs
-
-answer-requires-2 : tie.Need-answer-requires-2
-answer-requires-2 c κs = search needs
-
-enum-told-3 : tie.Need-enum-told-3
-enum-told-3 c = search needs
-
 returns-3 : tie.Need-returns-3
 returns-3 c = let z : _≡_ {A = ℕ} (c .before .before .before .before .args .progress .done) 0 = omega arith in rw (z, c .before .enum-told .given .1) (c .answer .ensures)
 
@@ -40,14 +28,4 @@ returns-5 c = let z : _≡_ {A = ℕ} (c .before .before .before .args .progress
 pub answer-of-spec : {M : Type 1} → statement M
 answer-of-spec =
     tie.close
-    (tie.spec
-    returns
-    returns-2
-    enum-told
-    answer-requires
-    enum-told-2
-    answer-requires-2
-    enum-told-3
-    returns-3
-    returns-4
-    returns-5)
+    (tie.spec returns returns-2 enum-told (λ c κs. search needs) (λ c. search needs) (λ c κs. search needs) (λ c. search needs) returns-3 returns-4 returns-5)

@@ -8,9 +8,6 @@ use borrow.Author.Needs.{needs}
 use Rattle.guest_hypercalls.proofs.work.change_row.Statement.{statement}
 use Rattle.guest_hypercalls.proofs.work.change_row.Tie as tie
 
-row-bounds-requires : tie.Need-row-bounds-requires
-row-bounds-requires c κs = search needs
-
 mul-change-range : tie.Need-mul-change-range
 mul-change-range c = omega (arith, in-order (c .before .before .before .args .map .now) (c .before .before .before .args .slot) _ (c .row-bounds .ensures))
 
@@ -23,18 +20,6 @@ part-change-range-start c = (in-order (c .before .before .before .args .map .now
 part-change-range-end : tie.Need-part-change-range-end
 part-change-range-end c = (in-order (c .before .before .before .args .map .now) (c .before .before .before .args .slot) _ (c .row-bounds .ensures)) .1
 
-holding-requires : tie.Need-holding-requires
-holding-requires c κs = search needs
-
-change-range-requires : tie.Need-change-range-requires
-change-range-requires c κs = search needs
-
-same-length : tie.Need-same-length
-same-length c = search needs
-
-same-length-2 : tie.Need-same-length-2
-same-length-2 c = search needs
-
 returns : tie.Need-returns
 returns c = λ h.
     rw (← (c .before .before .before .before .before .holding .ensures))
@@ -43,14 +28,4 @@ returns c = λ h.
 pub change-row-spec : {M : Type 1} → statement M
 change-row-spec =
     tie.close
-    (tie.spec
-    row-bounds-requires
-    mul-change-range
-    sub-change-range
-    part-change-range-start
-    part-change-range-end
-    holding-requires
-    change-range-requires
-    same-length
-    same-length-2
-    returns)
+    (tie.spec (λ c κs. search needs) mul-change-range sub-change-range part-change-range-start part-change-range-end (λ c κs. search needs) (λ c κs. search needs) (λ c. search needs) (λ c. search needs) returns)

@@ -2,27 +2,12 @@
 use mathlib.Core.List.{[], _∷_}
 use lib.Dec.{ltb}
 use Rattle.tables.specs.Row.{rowOf}
-use Rattle.records.specs.declared.answer.Answer.the-variants.{Damaged, NoFreeSlot}
-use Rattle.records.proofs.TestLaws.{tests-in-order}
+use Rattle.answers.specs.declared.answer.Answer.the-variants.{Damaged, NoFreeSlot}
+use Rattle.commands.proofs.TestLaws.{tests-in-order}
 use Rattle.rows.specs.WholeRow.{rowVacant}
 use borrow.Author.Needs.{needs}
 use Rattle.host_guests.proofs.creation.create_admission.Statement.{statement}
 use Rattle.host_guests.proofs.creation.create_admission.Tie as tie
-
-lengths-hold-requires : tie.Need-lengths-hold-requires
-lengths-hold-requires c κs = search needs
-
-row-requires : tie.Need-row-requires
-row-requires c κs = search needs
-
-row-vacant-requires : tie.Need-row-vacant-requires
-row-vacant-requires c κs = search needs
-
-check-requires : tie.Need-check-requires
-check-requires c κs = search needs
-
-check-requires-2 : tie.Need-check-requires-2
-check-requires-2 c κs = search needs
 
 returns : tie.Need-returns
 returns c =
@@ -38,11 +23,4 @@ returns-2 c = rw (← (c .before .lengths-hold .ensures), c .if1 .left)
 pub create-admission-spec : {M : Type 1} → statement M
 create-admission-spec =
     tie.close
-    (tie.spec
-    lengths-hold-requires
-    row-requires
-    row-vacant-requires
-    check-requires
-    check-requires-2
-    returns
-    returns-2)
+    (tie.spec (λ c κs. search needs) (λ c κs. search needs) (λ c κs. search needs) (λ c κs. search needs) (λ c κs. search needs) returns returns-2)

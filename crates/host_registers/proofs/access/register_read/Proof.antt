@@ -1,46 +1,20 @@
--- By the admission.
-use Rattle.records.specs.State.{state}
-use Rattle.host_registers.proofs.RegisterLaws.{read-refused, read-passed}
+-- What is decided on the record of the slot, applied.
+use Rattle.host_registers.specs.Registers.{readCommand, registerReadOf}
+use Rattle.commands.proofs.CommandLaws.{applying}
+use Rattle.commands.specs.State.{state}
+use mathlib.Core.Path.{refl}
 use borrow.Author.Needs.{needs}
 use Rattle.host_registers.proofs.access.register_read.Statement.{statement}
 use Rattle.host_registers.proofs.access.register_read.Tie as tie
 
-guest-requires : tie.Need-guest-requires
-guest-requires c κs = search needs
-
-of-requires : tie.Need-of-requires
-of-requires c κs = search needs
-
-read-admission-requires : tie.Need-read-admission-requires
-read-admission-requires c κs = search needs
-
-enum-known-answer : tie.Need-enum-known-answer
-enum-known-answer c = search needs
-
-enum-told : tie.Need-enum-told
-enum-told c = search needs
-
-bitmap-requires : tie.Need-bitmap-requires
-bitmap-requires c κs = search needs
-
 returns : tie.Need-returns
+unfolding registerReadOf
 returns c = λ frames map.
-    read-refused _ _ (state frames map (c .before .before .before .before .before .before .args .monitor)) _ (c .before .before .before .before .before .guest .ensures) _ (c .before .before .before .before .of .ensures) _ (c .before .before .before .read-admission .ensures) _ (c .before .answer .given .1)
-
-returns-2 : tie.Need-returns-2
-returns-2 c = λ frames map.
-    rw (c .bitmap .ensures)
-    (read-passed _ _ (state frames map (c .before .before .before .before .before .before .args .monitor)) _ (c .before .before .before .before .before .guest .ensures) _ (c .before .before .before .before .of .ensures) _ (c .before .before .before .read-admission .ensures) (c .before .enum-told .given .1))
+    let decided = c .before in
+    let entry = decided .before .before .args in
+    rw (c .reply .ensures)
+    (applying (readCommand (entry .slot) (entry .number)) (state frames map (entry .monitor)) (entry .slot) _ _ refl (decided .before .guest .ensures) (decided .decide-register-read .ensures frames map))
 
 pub register-read-spec : {M : Type 1} → statement M
 register-read-spec =
-    tie.close
-    (tie.spec
-    guest-requires
-    of-requires
-    read-admission-requires
-    enum-known-answer
-    enum-told
-    bitmap-requires
-    returns
-    returns-2)
+    tie.close (tie.spec (λ c κs. search needs) (λ c κs. search needs) (λ c κs. search needs) returns)

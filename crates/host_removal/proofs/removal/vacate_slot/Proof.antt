@@ -6,9 +6,6 @@ use borrow.Author.Needs.{needs}
 use Rattle.host_removal.proofs.removal.vacate_slot.Statement.{statement}
 use Rattle.host_removal.proofs.removal.vacate_slot.Tie as tie
 
-row-bounds-requires : tie.Need-row-bounds-requires
-row-bounds-requires c κs = search needs
-
 mul-vacate : tie.Need-mul-vacate
 mul-vacate c = omega (arith, in-order (c .before .before .before .args .map .now) (c .before .before .before .args .slot) _ (c .row-bounds .ensures))
 
@@ -21,15 +18,6 @@ part-vacate-start c = in-order (c .before .before .before .args .map .now) (c .b
 part-vacate-end : tie.Need-part-vacate-end
 part-vacate-end c = in-order (c .before .before .before .args .map .now) (c .before .before .before .args .slot) _ (c .row-bounds .ensures) .1
 
-vacate-requires : tie.Need-vacate-requires
-vacate-requires c κs = search needs
-
-same-length : tie.Need-same-length
-same-length c = search needs
-
-same-length-2 : tie.Need-same-length-2
-same-length-2 c = search needs
-
 returns : tie.Need-returns
 returns c =
     let bounded = c .before .before .before .before .before .before .before in
@@ -38,13 +26,4 @@ returns c =
 pub vacate-slot-spec : {M : Type 1} → statement M
 vacate-slot-spec =
     tie.close
-    (tie.spec
-    row-bounds-requires
-    mul-vacate
-    sub-vacate
-    part-vacate-start
-    part-vacate-end
-    vacate-requires
-    same-length
-    same-length-2
-    returns)
+    (tie.spec (λ c κs. search needs) mul-vacate sub-vacate part-vacate-start part-vacate-end (λ c κs. search needs) (λ c. search needs) (λ c. search needs) returns)

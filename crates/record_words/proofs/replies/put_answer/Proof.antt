@@ -3,11 +3,8 @@ use borrow.Author.Needs.{needs}
 use Rattle.record_words.proofs.replies.put_answer.Statement.{statement}
 use Rattle.record_words.proofs.replies.put_answer.Tie as tie
 
-numbers-requires : tie.Need-numbers-requires
-numbers-requires c κs = search needs
-
 returns : tie.Need-returns
 returns c = rw (c .before .numbers .ensures)
 
 pub put-answer-spec : {M : Type 1} → statement M
-put-answer-spec = tie.close (tie.spec numbers-requires returns)
+put-answer-spec = tie.close (tie.spec (λ c κs. search needs) returns)

@@ -1,54 +1,49 @@
--- A length of a kind is compared with those before it; one of a range is none of the four.
-use mathlib.Core.Bool.{false}
-use mathlib.Core.Path.{_≡_}
-use borrow.Author.Tests.{ne-eqb}
-use Rattle.trace_kinds.specs.Kind.{someLength}
+-- What is left of the list has the length where the whole list has it.
+use mathlib.Core.Path.{_≡_, refl, _∙_, sym}
+use mathlib.Core.Bool.{_||_}
+use Prim.Native.Nat.{_+_, _-_, _≤_}
+use native.Mathlib.Numerals.{add-one}
+use native.Mathlib.Omega.{arith}
+use lib.Dec.{eqb}
+use lib.ListN.{length, drop}
+use borrow.Author.Tests.{eq-eqb, ne-eqb}
+use Rattle.trace_kinds.specs.Kind.{kinds, someOf, someLength}
+use Rattle.trace_kinds.proofs.KindLaws.{some-step}
+use borrow.Author.Needs.{needs}
 use Rattle.trace_kinds.proofs.starts.some_length.Statement.{statement}
 use Rattle.trace_kinds.proofs.starts.some_length.Tie as tie
 
-none-of : (c : tie.At-match-rest) → false ≡ someLength (c .before .args .length)
-none-of c =
-    let n = c .before .args .length in
-    let others = c .match .rest in
-    rw (ne-eqb n 3 (others .0 .0 .0 .1), ne-eqb n 11 (others .0 .0 .1), ne-eqb n 19 (others .0 .1), ne-eqb n 35 (others .1))
+abbrev Inv-loop : tie.InvT-loop
+Inv-loop n i₀ i = (i ≤ length kinds) × (someLength n ≡ someOf (drop i kinds) n)
 
-returns : tie.Need-returns
-returns c = rw (c .match .keys1)
+abbrev μ-loop : tie.MeasureT-loop
+μ-loop n i₀ i = length kinds - i
 
-returns-2 : tie.Need-returns-2
-returns-2 c = rw (c .match .keys2)
+-- looking at the next kind
+next : (c : tie.After-length Inv-loop μ-loop)
+    → someLength (c .before .before .before .before .args .length) ≡ eqb (c .length .result) (c .before .before .before .before .args .length) || someOf (drop (c .before .before .before .loop .i + 1) kinds) (c .before .before .before .before .args .length)
+next c = c .before .before .before .loop .inv .1 ∙ rw (add-one, c .length .ensures) (some-step kinds (c .before .before .before .loop .i) (c .before .before .before .before .args .length) _ (c .before .before .loop-test .taken))
 
-returns-3 : tie.Need-returns-3
-returns-3 c = rw (c .match .keys3)
+returns : tie.Need-returns Inv-loop μ-loop
+returns c = sym (next (c .before) ∙ rw (eq-eqb (c .before .length .result) (c .before .before .before .before .before .args .length) (c .if1 .taken)))
 
-returns-4 : tie.Need-returns-4
-returns-4 c = rw (c .match .keys4)
+loop-again : tie.Need-loop-again Inv-loop μ-loop
+loop-again c = (omega arith, next (c .before) ∙ rw (ne-eqb (c .before .length .result) (c .before .before .before .before .before .args .length) (c .if1 .left)))
 
-returns-5 : tie.Need-returns-5
-returns-5 c = none-of (c .before)
-
-returns-6 : tie.Need-returns-6
-returns-6 c = none-of (c .before .before)
-
-returns-7 : tie.Need-returns-7
-returns-7 c = none-of (c .before .before .before)
-
-returns-8 : tie.Need-returns-8
-returns-8 c = none-of (c .before .before .before .before)
-
-returns-9 : tie.Need-returns-9
-returns-9 c = none-of (c .before .before .before .before)
+returns-2 : tie.Need-returns-2 Inv-loop μ-loop
+returns-2 c = let all : c .before .loop .i ≡ length kinds = omega arith in sym (c .before .loop .inv .1 ∙ rw all)
 
 pub some-length-spec : {M : Type 1} → statement M
 some-length-spec =
     tie.close
     (tie.spec
+    Inv-loop
+    μ-loop
+    (λ c. (omega arith, refl))
+    (λ c. search needs)
+    (λ c κs. search needs)
     returns
-    returns-2
-    returns-3
-    returns-4
-    returns-5
-    returns-6
-    returns-7
-    returns-8
-    returns-9)
+    (λ c. search needs)
+    (λ c. omega arith)
+    loop-again
+    returns-2)

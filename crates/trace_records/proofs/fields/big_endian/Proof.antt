@@ -25,12 +25,6 @@ mul-value c =
     let more = below-more-bytes (turn .value) (turn .i) 0 (turn .inv .2) (omega arith) in
     omega (arith, eight-bytes-fit (turn .value * 256 + 0) (turn .i + 1) more (omega arith))
 
-shared-slice-read-wide : tie.Need-shared-slice-read-wide Inv-loop μ-loop
-shared-slice-read-wide c = search needs
-
-wide-requires : tie.Need-wide-requires Inv-loop μ-loop
-wide-requires c κs = search needs
-
 -- the value with the byte read
 more-bytes : (c : tie.After-wide Inv-loop μ-loop)
     → c .before .before .before .loop .value * 256 + c .wide .result < 256 ^ (c .before .before .before .loop .i + 1)
@@ -42,12 +36,6 @@ add-value : tie.Need-add-value Inv-loop μ-loop
 add-value c =
     let turn = c .before .before .before .loop in
     omega (arith, eight-bytes-fit (turn .value * 256 + c .wide .result) (turn .i + 1) (more-bytes c) (omega arith))
-
-add-i : tie.Need-add-i Inv-loop μ-loop
-add-i c = omega arith
-
-loop-less : tie.Need-loop-less Inv-loop μ-loop
-loop-less c = omega arith
 
 loop-again : tie.Need-loop-again Inv-loop μ-loop
 loop-again c =
@@ -71,10 +59,10 @@ big-endian-spec =
     μ-loop
     loop-holds
     mul-value
-    shared-slice-read-wide
-    wide-requires
+    (λ c. search needs)
+    (λ c κs. search needs)
     add-value
-    add-i
-    loop-less
+    (λ c. omega arith)
+    (λ c. omega arith)
     loop-again
     returns)

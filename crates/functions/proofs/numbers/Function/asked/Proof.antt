@@ -10,11 +10,8 @@ use Rattle.functions.proofs.numbers.Function.asked.Tie as tie
 cast-of : tie.Need-cast-of
 cast-of c = record { fits = omega (arith, mask-lt (c .args .r0) 32) }
 
-of-requires : tie.Need-of-requires
-of-requires c κs = search needs
-
 returns : tie.Need-returns
 returns c = c .of .ensures ∙ ap functionOf (and-mask (c .before .args .r0) 32)
 
 pub asked-spec : {M : Type 1} → statement M
-asked-spec = tie.close (tie.spec cast-of of-requires returns)
+asked-spec = tie.close (tie.spec cast-of (λ c κs. search needs) returns)

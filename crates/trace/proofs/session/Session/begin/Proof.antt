@@ -4,11 +4,8 @@ use borrow.Author.Needs.{needs}
 use Rattle.trace.proofs.session.Session.begin.Statement.{statement}
 use Rattle.trace.proofs.session.Session.begin.Tie as tie
 
-fresh-requires : tie.Need-fresh-requires
-fresh-requires c κs = search needs
-
 returns : tie.Need-returns
 returns c = rw (c .fresh .ensures)
 
 pub begin-spec : {M : Type 1} → statement M
-begin-spec = tie.close (tie.spec fresh-requires returns)
+begin-spec = tie.close (tie.spec (λ c κs. search needs) returns)

@@ -8,17 +8,8 @@ use Rattle.trace_lines.proofs.PutLaws.{puts-then}
 use Rattle.trace.proofs.session.Session.close.Statement.{statement}
 use Rattle.trace.proofs.session.Session.close.Tie as tie
 
-put-requires : tie.Need-put-requires
-put-requires c κs = search needs
-
 returns : tie.Need-returns
 returns c = rw (c .before .before .if1 .taken) (c .put .ensures)
-
-put-requires-2 : tie.Need-put-requires-2
-put-requires-2 c κs = search needs
-
-put-requires-3 : tie.Need-put-requires-3
-put-requires-3 c κs = search needs
 
 returns-2 : tie.Need-returns-2
 returns-2 c =
@@ -27,4 +18,4 @@ returns-2 c =
     rw (ne-eqb _ _ (c .before .before .before .before .if1 .left)) (puts-then (bad .ensures) last)
 
 pub close-spec : {M : Type 1} → statement M
-close-spec = tie.close (tie.spec put-requires returns put-requires-2 put-requires-3 returns-2)
+close-spec = tie.close (tie.spec (λ c κs. search needs) returns (λ c κs. search needs) (λ c κs. search needs) returns-2)

@@ -1,84 +1,25 @@
--- A number is compared with those before it; one of the range is none of the ten.
-use borrow.Author.Tests.{ne-eqb}
-use Rattle.trace_kinds.specs.Kind.{kindOf}
+-- A number from 1 to that of the last kind is a place in the list; the others are none.
+use mathlib.Core.Path.{_≡_, sym}
+use native.Mathlib.Omega.{arith}
+use lib.ListN.{List·getD-eq-default}
+use mathlib.Core.List.{map, _∷_}
+use Rattle.trace_kinds.specs.Kind.{kinds, kindOf}
+use Rattle.trace_kinds.specs.declared.kinds.Found.the-variants.{Known, Unknown}
+use Rattle.trace_kinds.proofs.KindLaws.{numbered}
+use borrow.Author.Needs.{needs}
 use Rattle.trace_kinds.proofs.kinds.Kind.of.Statement.{statement}
 use Rattle.trace_kinds.proofs.kinds.Kind.of.Tie as tie
 
 returns : tie.Need-returns
-unfolding kindOf
-returns c = rw (c .match .keys1)
+returns c = sym (numbered (c .before .before .before .args .number) _ (c .before .before .if1 .taken) (c .before .if2 .taken))
 
 returns-2 : tie.Need-returns-2
 unfolding kindOf
-returns-2 c = rw (c .match .keys2)
+returns-2 c = sym (List·getD-eq-default (Unknown ∷ map Known kinds) Unknown (c .if2 .left))
 
 returns-3 : tie.Need-returns-3
 unfolding kindOf
-returns-3 c = rw (c .match .keys3)
-
-returns-4 : tie.Need-returns-4
-unfolding kindOf
-returns-4 c = rw (c .match .keys4)
-
-returns-5 : tie.Need-returns-5
-unfolding kindOf
-returns-5 c = rw (c .match .keys5)
-
-returns-6 : tie.Need-returns-6
-unfolding kindOf
-returns-6 c = rw (c .match .keys6)
-
-returns-7 : tie.Need-returns-7
-unfolding kindOf
-returns-7 c = rw (c .match .keys7)
-
-returns-8 : tie.Need-returns-8
-unfolding kindOf
-returns-8 c = rw (c .match .keys8)
-
-returns-9 : tie.Need-returns-9
-unfolding kindOf
-returns-9 c = rw (c .match .keys9)
-
-returns-10 : tie.Need-returns-10
-unfolding kindOf
-returns-10 c = rw (c .match .keys10)
-
-returns-11 : tie.Need-returns-11
-unfolding kindOf
-returns-11 c = rw (c .match .keys11)
-
-returns-12 : tie.Need-returns-12
-unfolding kindOf
-returns-12 c =
-    let n = c .before .args .number in
-    let others = c .match .rest in
-    rw (
-      ne-eqb n 1 (others .0 .0 .0 .0 .0 .0 .0 .0 .0 .1),
-      ne-eqb n 2 (others .0 .0 .0 .0 .0 .0 .0 .0 .1),
-      ne-eqb n 3 (others .0 .0 .0 .0 .0 .0 .0 .1),
-      ne-eqb n 4 (others .0 .0 .0 .0 .0 .0 .1),
-      ne-eqb n 5 (others .0 .0 .0 .0 .0 .1),
-      ne-eqb n 6 (others .0 .0 .0 .0 .1),
-      ne-eqb n 7 (others .0 .0 .0 .1),
-      ne-eqb n 8 (others .0 .0 .1),
-      ne-eqb n 9 (others .0 .1),
-      ne-eqb n 10 (others .1),
-    )
+returns-3 c = let none : c .before .args .number ≡ 0 = omega arith in rw none
 
 pub of-spec : {M : Type 1} → statement M
-of-spec =
-    tie.close
-    (tie.spec
-    returns
-    returns-2
-    returns-3
-    returns-4
-    returns-5
-    returns-6
-    returns-7
-    returns-8
-    returns-9
-    returns-10
-    returns-11
-    returns-12)
+of-spec = tie.close (tie.spec (λ c. search needs) (λ c. search needs) returns returns-2 returns-3)
