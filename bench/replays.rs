@@ -46,7 +46,7 @@ fn main() -> ExitCode {
     match time(log, proved, plain) {
         Ok(times) => {
             figures::print_heading("ms per run");
-            figures::print_times("replay of the log", ["proved", "plain Rust"], &times, 1.2);
+            figures::print_times("replay of the log", ["proved", "plain Rust"], &times, 0.85);
             println!(
                 "From the file to /dev/null, by the clock, with the start of the process; both"
             );

@@ -5,7 +5,7 @@
 
 int main(void)
 {
-    static uint64_t records[48], answer[5];
+    static uint64_t records[CLUNDIP_ALL_RECORDS_WORDS], answer[CLUNDIP_ANSWER_WORDS];
     static uint32_t frames[256], map[8 * 64];
 
     clundip_create(records, frames, 256, map, 512, answer);

@@ -1,9 +1,8 @@
 //! Random tables, records and calls, drawn so that every verdict comes often.
 
-use crate::model::{Call, Memory, perform};
+use crate::model::{Call, Memory, RECORD, SLOT_CALLS, perform};
 
 const SLOTS: u64 = 8;
-const RECORD: usize = 6;
 const GRANULE_BYTES: u64 = 4096;
 
 const SHARE: u64 = 0xC600_0003;
@@ -388,17 +387,15 @@ pub fn call(random: &mut Random, memory: &Memory) -> Call {
     match random.below(100) {
         0..=6 => Call::Create,
         7..=17 => donate(random, memory, slot),
-        18..=21 => Call::Run { slot },
-        22..=25 => Call::Remove { slot },
-        26..=32 => {
+        18..=29 => random.pick(&SLOT_CALLS)(slot),
+        30..=36 => {
             let frame = frame(random, memory, |word| word == 0xFF00_0000);
             Call::Cleared { frame }
         }
-        33..=39 => {
+        37..=43 => {
             let frame = frame(random, memory, |word| word != 0);
             Call::Access { frame }
         }
-        40..=43 => Call::Show { slot },
         44..=47 => {
             let reg = register(random);
             Call::RegisterRead { slot, reg }

@@ -3,8 +3,9 @@
 //! It is written for obviousness: words become enums, the tests of a call stand
 //! in the order of the verdict table, and granules change one at a time.
 
-const SLOTS: usize = 8;
-const RECORD: usize = 6;
+pub const SLOTS: usize = 8;
+/// The words of a record.
+pub const RECORD: usize = 6;
 const GRANULE_BYTES: u64 = 4096;
 
 /// The limits and first values of STD, STD_HYP and VENDOR_HYP.
@@ -48,6 +49,13 @@ pub enum Call {
     Hypercall { slot: u64, registers: [u64; 4] },
     Abort { slot: u64, ipa: u64 },
 }
+
+/// The calls that take a slot and nothing else.
+pub const SLOT_CALLS: [fn(u64) -> Call; 3] = [
+    |slot| Call::Run { slot },
+    |slot| Call::Remove { slot },
+    |slot| Call::Show { slot },
+];
 
 /// Verdict and v0 to v3.
 pub type Answer = [u64; 5];

@@ -9,7 +9,7 @@ mod generate;
 mod model;
 
 use generate::Random;
-use model::{Call, Memory};
+use model::{Call, Memory, RECORD, SLOTS};
 use std::io::{self, Read};
 use std::os::fd::OwnedFd;
 use std::os::unix::net::UnixDatagram;
@@ -30,14 +30,14 @@ const VERDICTS: [usize; 12] = [0, 2, 3, 4, 5, 7, 8, 9, 10, 11, 12, 13];
 
 fn fresh() -> Memory {
     Memory {
-        records: [0; 48],
+        records: [0; SLOTS * RECORD],
         frames: vec![0; 256],
         map: vec![0; 8 * 64],
     }
 }
 
-/// The bytes of a record; `other` is the slot byte where it is ignored. There
-/// are none for show.
+/// The bytes of a record; `other` is the slot byte where it is ignored. A call
+/// without a kind, as show, has none.
 #[rustfmt::skip]
 fn record(call: Call, other: u8) -> Vec<u8> {
     let (kind, slot, arguments): (u8, u8, &[u64]) = match call {
@@ -51,7 +51,7 @@ fn record(call: Call, other: u8) -> Vec<u8> {
         Call::Access { frame } => (8, other, &[frame]),
         Call::RegisterRead { slot, reg } => (9, slot_byte(slot), &[reg]),
         Call::RegisterWrite { slot, reg, value } => (10, slot_byte(slot), &[reg, value]),
-        Call::Show { .. } => return vec![],
+        _ => return vec![],
     };
     let mut bytes = vec![0, 3 + 8 * arguments.len() as u8, 1, kind, slot];
     bytes.extend(arguments.iter().flat_map(|argument| argument.to_be_bytes()));

@@ -147,12 +147,16 @@ void frame_becomes(uint64_t frame, uint32_t word)
 
 void record_becomes(uint64_t slot, uint64_t live, uint64_t run, uint64_t vendor_hyp)
 {
-    memcpy(expected.records + 6 * slot, (uint64_t[]){live, run, 0, 0, 0, vendor_hyp}, 6 * sizeof(uint64_t));
+    uint64_t *record = expected.records + CLUNDIP_RECORD_WORDS * slot;
+    memset(record, 0, CLUNDIP_RECORD_WORDS * sizeof(uint64_t));
+    record[CLUNDIP_RECORD_LIVE] = live;
+    record[CLUNDIP_RECORD_RUN] = run;
+    record[CLUNDIP_RECORD_VENDOR_HYP] = vendor_hyp;
 }
 
 void record_word_becomes(uint64_t slot, uint64_t word, uint64_t value)
 {
-    expected.records[6 * slot + word] = value;
+    expected.records[CLUNDIP_RECORD_WORDS * slot + word] = value;
 }
 
 /* Words put in by hand. */
@@ -171,7 +175,7 @@ void put_frame(uint64_t frame, uint32_t word)
 
 void put_record_word(uint64_t slot, uint64_t word, uint64_t value)
 {
-    lent.records[6 * slot + word] = value;
+    lent.records[CLUNDIP_RECORD_WORDS * slot + word] = value;
     record_word_becomes(slot, word, value);
 }
 

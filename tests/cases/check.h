@@ -35,7 +35,7 @@ enum {
 /* What is lent, with canary words between. Words of the two tables beyond their lengths are canary words too. */
 struct memory {
     uint64_t before_records[CANARIES];
-    uint64_t records[8 * 6];
+    uint64_t records[CLUNDIP_ALL_RECORDS_WORDS];
     uint64_t before_answer[CANARIES];
     uint64_t answer[5];
     uint64_t before_part[CANARIES];

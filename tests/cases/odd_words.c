@@ -93,7 +93,7 @@ static void nothing_to_change(void)
     begin_case(odd_words, "odd words stay: calls that only look");
     DONE(call_show(6, 6 * 64, 64));
     for (uint64_t reg = 0; reg < 3; reg++)
-        EXPECT(call_register_read(6, reg), 0, lent.records[6 * 6 + CLUNDIP_RECORD_STD + reg]);
+        EXPECT(call_register_read(6, reg), 0, lent.records[6 * CLUNDIP_RECORD_WORDS + CLUNDIP_RECORD_STD + reg]);
     put_map(6, 6, 0);
     EXPECT(call_abort(6, 0x6000), 12, 0);
     put_frame(3, 0);
