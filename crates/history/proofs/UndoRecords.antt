@@ -89,7 +89,7 @@ module _ (F W : ℕ) (s : State) (i : WordsSound F W s) (plain : Plain W s) (n :
       let g = guestOf (s .monitor) n in
       let k = i .records n slot in
       let x = g .«vendor_hyp» in
-      let few : x ≤ 1 = leb-true x 1 (k .limits VendorHyp) in
+      let few : x ≤ 1 = leb-true x 1 (k .limit) in
       let all = joined-got x few (g .run) (g .enrolled) (k .enrolled) (started-got x few (g .run) (written-got x few got)) in
       rw (record-is g live k, guest-same (s .monitor) n g slot refl) at all
 

@@ -8,17 +8,23 @@ use Rattle.tables.specs.Length.{widthOf, lengthsHold}
 use Rattle.pairs.specs.Pair.{pairAt, pairOf, frameUndamaged}
 use Rattle.pairs.specs.declared.pairs.GranuleState.{GranuleState}
 use Rattle.pairs.specs.declared.pairs.GranuleState.the-variants.{Vacant, Frame, Guarded, Damaged}
-use Rattle.records.specs.Monitor.{zeroGuest, guestOf}
+use Rattle.records.specs.Monitor.{withFlags, zeroGuest, newGuest, guestOf}
 use Rattle.commands.specs.State.{State}
 use Rattle.records.specs.declared.guest.Guest.{Guest}
-use Rattle.records.specs.Change.{bitmapOf}
+use Rattle.records.specs.Change.{withBitmap}
 use Rattle.host_registers.specs.Registers.{withinLimit}
-use Rattle.records.specs.declared.change.FirmwareRegister.{FirmwareRegister}
+use Rattle.records.specs.declared.change.FirmwareRegister.the-variants.{VendorHyp}
 
--- "A dead slot's record is all zero in any history"; every bitmap is within its limit; only a guest that has run can have enrolled
+-- a live guest's record as create sets it, but for two flags and VENDOR_HYP
+abbrev pub guestAs : Bool → Bool → ℕ → Guest
+guestAs run enrolled x = withFlags true run enrolled (withBitmap VendorHyp x newGuest)
+
+-- "A dead slot's record is all zero in any history"; nothing else of a live one differs from what create sets; VENDOR_HYP is within its
+-- limit; only a guest that has run can have enrolled
 pub record SoundRecord (g : Guest) : Type 0 where
   pub dead : g .live ≡ false → g ≡ zeroGuest
-  pub limits : (r : FirmwareRegister) → withinLimit r (bitmapOf r g) ≡ true
+  pub live : g .live ≡ true → g ≡ guestAs (g .run) (g .enrolled) (g .«vendor_hyp»)
+  pub limit : withinLimit VendorHyp (g .«vendor_hyp») ≡ true
   pub enrolled : g .enrolled ≡ true → g .run ≡ true
 
 -- what a granule of a guest with this record can hold: a private frame if it is live, a shared one if it has run, guarded MMIO if it has

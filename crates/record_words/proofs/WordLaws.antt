@@ -1,5 +1,5 @@
 -- A record put in changes its own words and no others; one that is there already changes none.
-use mathlib.Core.Path.{_≡_, refl}
+use mathlib.Core.Path.{_≡_, refl, ap, _∙_}
 use mathlib.Core.Logic.{_≢_}
 use mathlib.Core.Bool.{true, false}
 use mathlib.Core.List.{List, [], _∷_, _++_, append-assoc}
@@ -8,13 +8,13 @@ use native.Mathlib.Nat.{zero-add}
 use native.Mathlib.Omega.{arith}
 use borrow.Author.Tests.{lt-ltb, le-ltb, eq-eqb, ne-eqb}
 use lib.ListN.{length, getD, take, drop, set, take-append-drop, drop-of-length-le}
-use lib.Seq.{drop-drop, drop-cons, take-add, paste}
-use Rattle.records.specs.Monitor.{zeroGuest, guestOf, withGuest}
+use lib.Seq.{drop-drop, drop-cons, take-add, paste, paste-suc}
+use Rattle.records.specs.Monitor.{guestLength, wordsOf, zeroGuest, guestOf, withGuest}
 use Rattle.records.specs.Change.{changed, alters, withChange}
 use Rattle.records.specs.declared.guest.Guest.{Guest}
 use Rattle.records.specs.declared.change.Change.{Change}
 use Rattle.records.proofs.ChangeLaws.{beyond}
-use Rattle.record_words.specs.Words.{guestLength, wordsFrom, guestAt, guestsFrom, monitorIn, wordsOf, sameWords, recordAfter, recordsAfter, wordsAfter}
+use Rattle.record_words.specs.Words.{wordsFrom, guestAt, guestsFrom, monitorIn, sameWords, recordAfter, recordsAfter, wordsAfter}
 
 from-there : (w : List ℕ) (u n k : ℕ) → k < n → getD (guestsFrom w u n) k zeroGuest ≡ guestAt w (u + k)
 from-there w u zero k h = absurd (omega arith)
@@ -40,6 +40,12 @@ module _ (a b : List ℕ) (i : ℕ) where
 
   pub words-end : length a ≤ i → length b ≤ i → sameWords (drop i a) (drop i b) ≡ true
   words-end h k = rw (drop-of-length-le a h, drop-of-length-le b k)
+
+-- a word more is copied
+pub copied : (d s : List ℕ) (j : ℕ) → j < length d → j < length s → set (paste d 0 s j) j (getD s j 0) ≡ paste d 0 s (suc j)
+copied d s j h k =
+    let here : j ≡ 0 + j = omega arith in
+    ap (λ (i : ℕ). set (paste d 0 s j) i (getD s j 0)) here ∙ paste-suc d 0 s j 0 (omega (arith, h)) k
 
 same-self : (w : List ℕ) → sameWords w w ≡ true
 same-self [] = refl

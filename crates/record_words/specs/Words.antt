@@ -1,40 +1,13 @@
--- The guest records as words that a caller lends: for each of the eight slots live, run, enrolled, STD, STD_HYP and VENDOR_HYP. And an
--- answer as five words.
-use mathlib.Core.Bool.{Bool, true, false, cond, not, _&&_}
+-- The guest records as words that a caller lends, those of slot 0 first. And an answer as five words.
+use mathlib.Core.Bool.{Bool, true, false, cond, _&&_}
 use mathlib.Core.List.{List, [], _∷_, _++_}
 use Prim.Native.Nat.{ℕ, zero, suc, _*_}
-use mir.Val.{boolByte}
 use lib.Dec.{eqb}
-use lib.ListN.{getD, take, drop}
+use lib.ListN.{take, drop}
+use Rattle.records.specs.Monitor.{guestLength, wordsOf, guestIn}
 use Rattle.records.specs.declared.guest.Guest.{Guest}
 use Rattle.records.specs.declared.monitor.Monitor.{Monitor}
 use Rattle.answers.specs.declared.answer.Numbers.{Numbers}
-
--- the number of words of a record
-abbrev pub guestLength : ℕ
-guestLength = 6
-
--- a record as its words: a flag is 1 where it is set, else 0
-abbrev pub wordsOf : Guest → List ℕ
-wordsOf g =
-    boolByte (g .live) ∷ boolByte (g .run) ∷ boolByte (g .enrolled)
-    ∷ g .std ∷ g .«std_hyp» ∷ g .«vendor_hyp» ∷ []
-
--- a flag word other than 0 counts as set
-abbrev pub isSet : ℕ → Bool
-isSet n = not (eqb n 0)
-
--- the record that its words say
-abbrev pub guestIn : List ℕ → Guest
-guestIn w =
-    record {
-      live = isSet (getD w 0 0);
-      run = isSet (getD w 1 0);
-      enrolled = isSet (getD w 2 0);
-      std = getD w 3 0;
-      «std_hyp» = getD w 4 0;
-      «vendor_hyp» = getD w 5 0;
-    }
 
 -- the words from slot v's record on
 abbrev pub wordsFrom : List ℕ → ℕ → List ℕ

@@ -1,11 +1,10 @@
 // The guest records as words that a caller lends, and an answer as five.
 // It rests on records, answers and commands. It makes no call and knows no table.
-mod layout;
 mod replies;
 mod slots;
 
-pub use layout::RECORD_WORDS;
 pub use replies::put_answer;
+pub use slots::RECORD_WORDS;
 pub use slots::guest_in;
 pub use slots::monitor_in;
 pub use slots::put_change;

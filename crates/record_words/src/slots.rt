@@ -2,16 +2,16 @@ ghost use mathlib.Core.Path.{_≡_};
 ghost use Prim.Native.Nat.{_+_, _≤_};
 ghost use lib.ListN.{length};
 ghost use lib.Seq.{paste};
-ghost use Rattle.records.specs.Monitor.{guestOf};
+ghost use Rattle.records.specs.Monitor.{guestLength, guestOf};
 ghost use Rattle.records.specs.Change.{withChange};
-ghost use Rattle.record_words.specs.Words.{guestLength, monitorIn, sameWords, wordsAfter};
-use crate::layout::GUEST_WORDS;
-use crate::layout::RECORD_WORDS;
-use crate::layout::guest_of;
-use crate::layout::words_of;
+ghost use Rattle.record_words.specs.Words.{monitorIn, sameWords, wordsAfter};
 use records::Change;
+use records::GUEST_WORDS;
 use records::Guest;
 use records::Monitor;
+
+// The words of the records of all slots.
+pub const RECORD_WORDS: usize = 8 * GUEST_WORDS;
 
 // The record of a slot, of any words. A slot above 7 has that of no guest.
 pub fn guest_in(words: &[u64; RECORD_WORDS], slot: u64) -> Guest
@@ -20,7 +20,7 @@ pub fn guest_in(words: &[u64; RECORD_WORDS], slot: u64) -> Guest
     if slot < 8 {
         let all: &[u64] = words;
         let start = GUEST_WORDS * (slot as usize);
-        guest_of(&all[start..start + GUEST_WORDS])
+        Guest::of_words(own_words(&all[start..start + GUEST_WORDS]))
     } else {
         Guest::zero()
     }
@@ -51,13 +51,25 @@ pub fn put_change(words: &mut [u64; RECORD_WORDS], slot: u64, change: Change)
     if change.alters() {
         if slot < 8 {
             let guest = guest_in(words, slot);
-            let own = words_of(change.apply(guest));
-            if same(words_of(guest), own) {
+            let own = change.apply(guest).words();
+            if same(guest.words(), own) {
                 return;
             }
             put_words(words, GUEST_WORDS * (slot as usize), own);
         }
     }
+}
+
+// The words of a record, taken out of where they are lent.
+fn own_words(words: &[u64]) -> [u64; GUEST_WORDS]
+    requires { ⌜ length (now words) ≡ guestLength ⌝ }
+    ensures { λ r. ⌜ r ≡ now (words .entry) ⌝ }
+{
+    let mut own = [0; GUEST_WORDS];
+    for i in 0..GUEST_WORDS {
+        own[i] = words[i];
+    }
+    own
 }
 
 // Whether two records have the same words.

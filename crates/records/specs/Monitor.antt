@@ -1,12 +1,14 @@
 -- Document 01, "Tables": "The state keeps the guest record of each of eight slots: live, run, enrolled and three feature bitmaps."
-use mathlib.Core.Bool.{Bool, true, false, cond, _&&_}
+use mathlib.Core.Bool.{Bool, true, false, cond, not, _&&_}
+use mathlib.Core.List.{List, [], _∷_}
 use Prim.Native.Nat.{ℕ, zero, suc}
-use lib.Dec.{ltb}
+use mir.Val.{boolByte}
+use lib.Dec.{eqb, ltb}
 use lib.ListN.{getD, set, replicate}
 use Rattle.records.specs.declared.guest.Guest.{Guest}
 use Rattle.records.specs.declared.monitor.Monitor.{Monitor}
 
--- a record field by field: only here, and in the two below that set some fields and keep the others
+-- a record field by field: only in guestWith, in the two that set some fields and keep the others, and in its words
 abbrev pub guestWith : Bool → Bool → Bool → ℕ → ℕ → ℕ → Guest
 guestWith l r e a b c = record { live = l; run = r; enrolled = e; std = a; «std_hyp» = b; «vendor_hyp» = c }
 
@@ -15,6 +17,24 @@ withFlags l r e g = guestWith l r e (g .std) (g .«std_hyp») (g .«vendor_hyp»
 
 abbrev pub withBitmaps : ℕ → ℕ → ℕ → Guest → Guest
 withBitmaps a b c g = guestWith (g .live) (g .run) (g .enrolled) a b c
+
+-- the number of words of a record
+abbrev pub guestLength : ℕ
+guestLength = 6
+
+-- a record as the words that a caller of the library lends: a flag is 1 where it is set, else 0
+abbrev pub wordsOf : Guest → List ℕ
+wordsOf g =
+    boolByte (g .live) ∷ boolByte (g .run) ∷ boolByte (g .enrolled)
+    ∷ g .std ∷ g .«std_hyp» ∷ g .«vendor_hyp» ∷ []
+
+-- a flag word other than 0 counts as set
+abbrev pub isSet : ℕ → Bool
+isSet n = not (eqb n 0)
+
+-- the record that its words say
+abbrev pub guestIn : List ℕ → Guest
+guestIn w = guestWith (isSet (getD w 0 0)) (isSet (getD w 1 0)) (isSet (getD w 2 0)) (getD w 3 0) (getD w 4 0) (getD w 5 0)
 
 abbrev pub zeroGuest : Guest
 zeroGuest = guestWith false false false 0 0 0

@@ -1,5 +1,8 @@
 ghost use mathlib.Core.Path.{_≡_};
-ghost use Rattle.records.specs.Monitor.{zeroGuest, liveIn};
+ghost use Rattle.records.specs.Monitor.{zeroGuest, liveIn, guestIn, wordsOf};
+
+// The words of a record.
+pub const GUEST_WORDS: usize = 6;
 
 // The record of a guest slot. A slot that is not live has no guest, whatever else its record holds.
 pub struct Guest {
@@ -12,18 +15,39 @@ pub struct Guest {
 }
 
 impl Guest {
-    // The record of no guest, as in fresh records and after a removal. Only here a record is written out field by field.
+    // The record that its words say. A flag word other than 0 counts as set. Only here a record is written out field by field.
+    pub fn of_words(words: [u64; GUEST_WORDS]) -> Guest
+        ensures { λ r. ⌜ r ≡ guestIn words ⌝ }
+    {
+        Guest {
+            live: words[0] != 0,
+            run: words[1] != 0,
+            enrolled: words[2] != 0,
+            std: words[3],
+            std_hyp: words[4],
+            vendor_hyp: words[5],
+        }
+    }
+
+    // The words of this record, its flags as 0 or 1.
+    pub fn words(self) -> [u64; GUEST_WORDS]
+        ensures { λ r. ⌜ r ≡ wordsOf self ⌝ }
+    {
+        [
+            self.live as u64,
+            self.run as u64,
+            self.enrolled as u64,
+            self.std,
+            self.std_hyp,
+            self.vendor_hyp,
+        ]
+    }
+
+    // The record of no guest, as in fresh records and after a removal.
     pub fn zero() -> Guest
         ensures { λ r. ⌜ r ≡ zeroGuest ⌝ }
     {
-        Guest {
-            live: false,
-            run: false,
-            enrolled: false,
-            std: 0,
-            std_hyp: 0,
-            vendor_hyp: 0,
-        }
+        Guest::of_words([0; GUEST_WORDS])
     }
 
     // Whether this record is that of a guest in a slot. A slot above 7 has none, whatever record is handed in.

@@ -7,5 +7,6 @@ mod monitor;
 
 pub use change::Change;
 pub use change::FirmwareRegister;
+pub use guest::GUEST_WORDS;
 pub use guest::Guest;
 pub use monitor::Monitor;

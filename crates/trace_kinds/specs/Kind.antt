@@ -4,6 +4,9 @@ use mathlib.Core.List.{List, [], _∷_, map}
 use Prim.Native.Nat.{ℕ, _+_, _*_}
 use lib.Dec.{eqb}
 use lib.ListN.{getD}
+use Rattle.functions.specs.Rules.{registers}
+use Rattle.calls.specs.declared.call.Call.{Call}
+use Rattle.calls.specs.declared.call.Call.the-variants as call
 use Rattle.trace_kinds.specs.declared.kinds.Kind.{Kind}
 use Rattle.trace_kinds.specs.declared.kinds.Kind.the-variants.{Create, Donate, Run, Hypercall, Abort, Remove, Cleared, Access, RegisterRead, RegisterWrite}
 use Rattle.trace_kinds.specs.declared.kinds.Found.{Found}
@@ -32,6 +35,19 @@ argumentsOf Cleared = 1
 argumentsOf Access = 1
 argumentsOf RegisterRead = 1
 argumentsOf RegisterWrite = 2
+
+-- what a record of a kind asks for, by its slot byte and its arguments; one that it does not have is not looked at. "Create, cleared and access ignore the slot byte."
+abbrev pub callOf : Kind → ℕ → ℕ → ℕ → ℕ → ℕ → Call
+callOf Create slot a b c d = call.Create
+callOf Donate slot a b c d = call.Donate slot a b
+callOf Run slot a b c d = call.Run slot
+callOf Hypercall slot a b c d = call.Hypercall slot (registers a b c d)
+callOf Abort slot a b c d = call.Abort slot a
+callOf Remove slot a b c d = call.Remove slot
+callOf Cleared slot a b c d = call.Cleared a
+callOf Access slot a b c d = call.Access a
+callOf RegisterRead slot a b c d = call.RegisterRead slot a
+callOf RegisterWrite slot a b c d = call.RegisterWrite slot a b
 
 -- "length of the rest": version, kind and slot byte, and eight bytes for each argument
 abbrev pub lengthOf : Kind → ℕ

@@ -1,5 +1,7 @@
 ghost use mathlib.Core.Path.{_≡_};
-ghost use Rattle.trace_kinds.specs.Kind.{kindOf, argumentsOf, lengthOf};
+ghost use Rattle.trace_kinds.specs.Kind.{kindOf, argumentsOf, callOf, lengthOf};
+use calls::Call;
+use functions::Registers;
 
 // The version of every record.
 pub const VERSION: u8 = 1;
@@ -69,6 +71,40 @@ impl Kind {
             Kind::Access => 1,
             Kind::RegisterRead => 1,
             Kind::RegisterWrite => 2,
+        }
+    }
+
+    // What a record of this kind asks for, by the slot byte and the arguments.
+    pub fn call(self, slot: u64, a: u64, b: u64, c: u64, d: u64) -> Call
+        ensures { λ r. ⌜ r ≡ callOf self slot a b c d ⌝ }
+    {
+        match self {
+            Kind::Create => Call::Create,
+            Kind::Donate => Call::Donate {
+                slot,
+                frame: a,
+                granule: b,
+            },
+            Kind::Run => Call::Run { slot },
+            Kind::Hypercall => Call::Hypercall {
+                slot,
+                registers: Registers {
+                    r0: a,
+                    r1: b,
+                    r2: c,
+                    r3: d,
+                },
+            },
+            Kind::Abort => Call::Abort { slot, ipa: a },
+            Kind::Remove => Call::Remove { slot },
+            Kind::Cleared => Call::Cleared { frame: a },
+            Kind::Access => Call::Access { frame: a },
+            Kind::RegisterRead => Call::RegisterRead { slot, register: a },
+            Kind::RegisterWrite => Call::RegisterWrite {
+                slot,
+                register: a,
+                value: b,
+            },
         }
     }
 

@@ -5,12 +5,9 @@ use mathlib.Core.List.{List, [], _∷_}
 use Prim.Native.Nat.{ℕ, _+_, _*_}
 use lib.Dec.{eqb, ltb}
 use lib.ListN.{length, getD, take, drop}
-use Rattle.functions.specs.Rules.{registers}
 use Rattle.calls.specs.declared.call.Call.{Call}
-use Rattle.calls.specs.declared.call.Call.the-variants as call
-use Rattle.trace_kinds.specs.Kind.{version, kindOf, argumentsOf, lengthOf, startHolds}
+use Rattle.trace_kinds.specs.Kind.{version, kindOf, argumentsOf, callOf, lengthOf, startHolds}
 use Rattle.trace_kinds.specs.declared.kinds.Kind.{Kind}
-use Rattle.trace_kinds.specs.declared.kinds.Kind.the-variants.{Create, Donate, Run, Hypercall, Abort, Remove, Cleared, Access, RegisterRead, RegisterWrite}
 use Rattle.trace_kinds.specs.declared.kinds.Found.{Found}
 use Rattle.trace_kinds.specs.declared.kinds.Found.the-variants.{Known, Unknown}
 use Rattle.trace_records.specs.declared.decoding.Decoded.{Decoded}
@@ -41,19 +38,7 @@ slotIn s = getD s 4 0
 abbrev pub argumentIn : List ℕ → ℕ → ℕ → ℕ
 argumentIn s n k = cond (ltb k n) (bigEndian (take 8 (drop (5 + 8 * k) s))) 0
 
--- what a record asks for, by its slot byte and its arguments. "Create, cleared and access ignore the slot byte."
-abbrev pub callOf : Kind → ℕ → ℕ → ℕ → ℕ → ℕ → Call
-callOf Create slot a b c d = call.Create
-callOf Donate slot a b c d = call.Donate slot a b
-callOf Run slot a b c d = call.Run slot
-callOf Hypercall slot a b c d = call.Hypercall slot (registers a b c d)
-callOf Abort slot a b c d = call.Abort slot a
-callOf Remove slot a b c d = call.Remove slot
-callOf Cleared slot a b c d = call.Cleared a
-callOf Access slot a b c d = call.Access a
-callOf RegisterRead slot a b c d = call.RegisterRead slot a
-callOf RegisterWrite slot a b c d = call.RegisterWrite slot a b
-
+-- what a whole record of a kind asks for
 abbrev pub askedIn : Kind → List ℕ → Call
 askedIn k s =
     let n = argumentsOf k in

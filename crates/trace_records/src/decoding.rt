@@ -2,12 +2,11 @@ ghost use mathlib.Core.Path.{_≡_};
 ghost use Prim.Native.Nat.{_+_, _≤_};
 ghost use lib.ListN.{length};
 ghost use Rattle.trace_kinds.specs.Kind.{lengthOf};
-ghost use Rattle.trace_records.specs.Record.{callOf, askedIn, decodeOf};
+ghost use Rattle.trace_records.specs.Record.{askedIn, decodeOf};
 use crate::fields::argument;
 use crate::fields::header_holds;
 use crate::fields::slot;
 use calls::Call;
-use functions::Registers;
 use trace_kinds::Found;
 use trace_kinds::Kind;
 use trace_kinds::start_holds;
@@ -53,46 +52,11 @@ fn asked(kind: Kind, s: &[u8]) -> Call
     ensures { λ r. ⌜ r ≡ askedIn kind (now (s .entry)) ⌝ }
 {
     let n = kind.arguments();
-    call(
-        kind,
+    kind.call(
         slot(s),
         argument(s, n, 0),
         argument(s, n, 1),
         argument(s, n, 2),
         argument(s, n, 3),
     )
-}
-
-// The call of a kind, by the slot byte and the arguments.
-fn call(kind: Kind, slot: u64, a: u64, b: u64, c: u64, d: u64) -> Call
-    ensures { λ r. ⌜ r ≡ callOf kind slot a b c d ⌝ }
-{
-    match kind {
-        Kind::Create => Call::Create,
-        Kind::Donate => Call::Donate {
-            slot,
-            frame: a,
-            granule: b,
-        },
-        Kind::Run => Call::Run { slot },
-        Kind::Hypercall => Call::Hypercall {
-            slot,
-            registers: Registers {
-                r0: a,
-                r1: b,
-                r2: c,
-                r3: d,
-            },
-        },
-        Kind::Abort => Call::Abort { slot, ipa: a },
-        Kind::Remove => Call::Remove { slot },
-        Kind::Cleared => Call::Cleared { frame: a },
-        Kind::Access => Call::Access { frame: a },
-        Kind::RegisterRead => Call::RegisterRead { slot, register: a },
-        Kind::RegisterWrite => Call::RegisterWrite {
-            slot,
-            register: a,
-            value: b,
-        },
-    }
 }

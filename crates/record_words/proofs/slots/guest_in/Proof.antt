@@ -2,7 +2,8 @@
 use mathlib.Core.Path.{_≡_, sym, _∙_}
 use Prim.Native.Nat.{_+_, _*_, _-_}
 use native.Mathlib.Omega.{arith}
-use Rattle.record_words.specs.Words.{guestLength, guestAt}
+use Rattle.records.specs.Monitor.{guestLength}
+use Rattle.record_words.specs.Words.{guestAt}
 use Rattle.record_words.proofs.WordLaws.{guest-there, guest-nowhere}
 use borrow.Author.Needs.{needs}
 use Rattle.record_words.proofs.slots.guest_in.Statement.{statement}
@@ -11,12 +12,13 @@ use Rattle.record_words.proofs.slots.guest_in.Tie as tie
 returns : tie.Need-returns
 unfolding guestAt
 returns c =
-    let start = guestLength * c .before .before .before .before .args .slot in
+    let entry = c .before .before .before .before .before .args in
+    let start = guestLength * entry .slot in
     let own : start + guestLength - start ≡ guestLength = omega arith in
-    c .guest-of .ensures ∙ rw (own, guest-there (c .before .before .before .before .args .words .now) (c .before .before .before .before .args .slot) (c .before .before .before .if1 .taken))
+    c .of-words .ensures ∙ rw (c .before .own-words .ensures, own, guest-there (entry .words .now) (entry .slot) (c .before .before .before .before .if1 .taken))
 
 returns-2 : tie.Need-returns-2
 returns-2 c = c .zero .ensures ∙ sym (guest-nowhere (c .before .before .args .words .now) (c .before .before .args .slot) (c .before .if1 .left))
 
 pub guest-in-spec : {M : Type 1} → statement M
-guest-in-spec = tie.close (tie.spec (λ c. search needs) (λ c. search needs) (λ c. search needs) (λ c. search needs) (λ c. search needs) (λ c. search needs) (λ c κs. search needs) (λ c κs. search needs) returns returns-2)
+guest-in-spec = tie.close (tie.spec (λ c. search needs) (λ c. search needs) (λ c. search needs) (λ c. search needs) (λ c. search needs) (λ c. search needs) (λ c κs. search needs) (λ c κs. search needs) (λ c κs. search needs) returns returns-2)

@@ -7,13 +7,13 @@ use Rattle.record_words.proofs.slots.put_change.Tie as tie
 
 returns : tie.Need-returns
 returns c =
-    change-same (c .before .before .before .before .before .before .before .before .before .before .args .words .now) (c .before .before .before .before .before .before .before .before .before .before .args .slot) (c .before .before .before .before .before .before .before .before .before .before .args .change) (sym (c .before .before .before .before .before .before .before .before .if1 .taken) ∙ c .before .before .before .before .before .before .before .before .before .alters .ensures) (c .before .before .before .before .before .before .before .if2 .taken) _ (c .before .before .before .before .before .guest-in .ensures) _ (c .before .before .before .before .apply .ensures) _ _ (c .before .before .words-of2 .ensures) (c .before .before .before .words-of .ensures)
+    change-same (c .before .before .before .before .before .before .before .before .before .before .args .words .now) (c .before .before .before .before .before .before .before .before .before .before .args .slot) (c .before .before .before .before .before .before .before .before .before .before .args .change) (sym (c .before .before .before .before .before .before .before .before .if1 .taken) ∙ c .before .before .before .before .before .before .before .before .before .alters .ensures) (c .before .before .before .before .before .before .before .if2 .taken) _ (c .before .before .before .before .before .guest-in .ensures) _ (c .before .before .before .before .apply .ensures) _ _ (c .before .before .words2 .ensures) (c .before .before .before .words .ensures)
     (sym (c .before .same .ensures) ∙ c .if3 .taken)
 
 returns-2 : tie.Need-returns-2
 returns-2 c =
     c .put-words .ensures
-    ∙ change-written (c .before .before .before .before .before .before .before .before .before .before .before .before .args .words .now) (c .before .before .before .before .before .before .before .before .before .before .before .before .args .slot) (c .before .before .before .before .before .before .before .before .before .before .before .before .args .change) (sym (c .before .before .before .before .before .before .before .before .before .before .if1 .taken) ∙ c .before .before .before .before .before .before .before .before .before .before .before .alters .ensures) (c .before .before .before .before .before .before .before .before .before .if2 .taken) _ (c .before .before .before .before .before .before .before .guest-in .ensures) _ (c .before .before .before .before .before .before .apply .ensures) _ _ (c .before .before .before .before .words-of2 .ensures) (c .before .before .before .before .before .words-of .ensures)
+    ∙ change-written (c .before .before .before .before .before .before .before .before .before .before .before .before .args .words .now) (c .before .before .before .before .before .before .before .before .before .before .before .before .args .slot) (c .before .before .before .before .before .before .before .before .before .before .before .before .args .change) (sym (c .before .before .before .before .before .before .before .before .before .before .if1 .taken) ∙ c .before .before .before .before .before .before .before .before .before .before .before .alters .ensures) (c .before .before .before .before .before .before .before .before .before .if2 .taken) _ (c .before .before .before .before .before .before .before .guest-in .ensures) _ (c .before .before .before .before .before .before .apply .ensures) _ _ (c .before .before .before .before .words2 .ensures) (c .before .before .before .before .before .words .ensures)
     (sym (c .before .before .before .same .ensures) ∙ c .before .before .if3 .left)
 
 returns-3 : tie.Need-returns-3

@@ -5,7 +5,7 @@ use native.Mathlib.Omega.{arith}
 use borrow.Author.Needs.{needs}
 use lib.ListN.{length, length-set}
 use lib.Seq.{paste, paste-zero, paste-suc}
-use Rattle.record_words.specs.Words.{guestLength}
+use Rattle.records.specs.Monitor.{guestLength}
 use Rattle.record_words.proofs.slots.put_words.Statement.{statement}
 use Rattle.record_words.proofs.slots.put_words.Tie as tie
 

@@ -4,7 +4,8 @@ use Prim.Native.Nat.{_-_}
 use native.Mathlib.Omega.{arith}
 use borrow.Author.Needs.{needs}
 use lib.ListN.{drop}
-use Rattle.record_words.specs.Words.{guestLength, sameWords}
+use Rattle.records.specs.Monitor.{guestLength}
+use Rattle.record_words.specs.Words.{sameWords}
 use Rattle.record_words.proofs.WordLaws.{words-differ, words-alike, words-end}
 use Rattle.record_words.proofs.slots.same.Statement.{statement}
 use Rattle.record_words.proofs.slots.same.Tie as tie
