@@ -21,7 +21,7 @@ const AT_ONCE: u64 = 64;
 /// What is lent to a call.
 #[derive(Clone, Debug, PartialEq)]
 struct Lent {
-    records: [u64; 48],
+    records: clundip::Records,
     frames: Vec<u32>,
     map: Vec<u32>,
 }
@@ -30,12 +30,14 @@ impl Lent {
     /// One live guest that was run, with a frame for each granule of its row.
     fn full_row(shared: fn(u32) -> bool) -> Self {
         let mut lent = Self {
-            records: [0; 48],
+            records: [0; clundip::RECORD_WORDS],
             frames: vec![0; FRAMES as usize],
             map: vec![0; 8 * GRANULES as usize],
         };
         let slot = SLOT as usize;
-        lent.records[6 * slot..][..6].copy_from_slice(&[1, 1, 0, 0, 0, 1]);
+        let mut record = plain::FRESH;
+        record[plain::RUN] = 1;
+        lent.records[slot * record.len()..][..record.len()].copy_from_slice(&record);
         let row = &mut lent.map[slot * GRANULES as usize..];
         for (granule, word) in (0..GRANULES).zip(row) {
             // An odd factor gives each granule a frame of its own, far from its neighbour's.
@@ -48,7 +50,7 @@ impl Lent {
     }
 
     /// As the calls take it.
-    fn parts(&mut self) -> (&mut [u64; 48], &mut [u32], &mut [u32]) {
+    fn parts(&mut self) -> (&mut clundip::Records, &mut [u32], &mut [u32]) {
         (&mut self.records, &mut self.frames, &mut self.map)
     }
 

@@ -2,19 +2,26 @@
 //! The benchmarks time the proved calls against these.
 //!
 //! Of a record that changes, run, enroll and register write set the one word that they are about; the library
-//! writes all six, with flags as 0 or 1. That shows only on flags that are neither.
-
-pub const RECORD_WORDS: usize = 48;
-pub type Records = [u64; RECORD_WORDS];
+//! writes them all, with flags as 0 or 1. That shows only on flags that are neither.
 
 /// The words of one slot: three flags, then the bitmaps STD, STD_HYP and VENDOR_HYP.
-type Record = [u64; 6];
+const RECORD: usize = 6;
+type Record = [u64; RECORD];
 const LIVE: usize = 0;
-const RUN: usize = 1;
+pub const RUN: usize = 1;
 const ENROLLED: usize = 2;
 const BITMAPS: usize = 3;
 const VENDOR_HYP: usize = 5;
-const FRESH: Record = [1, 0, 0, 0, 0, 1];
+pub const FRESH: Record = {
+    let mut record = [0; RECORD];
+    record[LIVE] = 1;
+    record[VENDOR_HYP] = 1;
+    record
+};
+
+pub const RECORD_WORDS: usize = SLOTS * RECORD;
+pub type Records = [u64; RECORD_WORDS];
+
 const BITMAP_LIMITS: [u64; 3] = [0, 0, 1];
 
 const SLOTS: usize = 8;
@@ -280,7 +287,7 @@ pub fn remove(records: &mut Records, frames: &mut [u32], map: &mut [u32], slot: 
         }
     }
     row.fill(VACANT);
-    *record = [0; 6];
+    *record = [0; RECORD];
     Answer::done(count)
 }
 

@@ -10,7 +10,7 @@ mod generate;
 mod model;
 
 use generate::{Random, SORTS, Sort};
-use model::{Call, Memory, Outcome};
+use model::{Call, Memory, Outcome, RECORD};
 use std::fmt::{LowerHex, Write};
 use std::panic::{AssertUnwindSafe, catch_unwind};
 use std::process::ExitCode;
@@ -201,7 +201,7 @@ impl Difference {
         print_differing("frames", frames, &library.frames, &model.frames);
         print_differing("map", map, &library.map, &model.map);
         println!("words before the call that are not 0, in hex:");
-        print_words("records", records, 6);
+        print_words("records", records, RECORD);
         print_words("frames", frames, 256);
         print_words("map", map, map.len() / 8);
     }

@@ -14,12 +14,13 @@ struct constant {
 #define NAME(name) "CLUNDIP_" #name, CLUNDIP_##name
 
 static const struct constant bounds_and_orders[] = {
-    {NAME(SLOTS), 8},          {NAME(GRANULE_SIZE), 4096},    {NAME(MAX_FRAMES), 16384},  {NAME(MAX_GRANULES), 4096},
-    {NAME(RECORD_WORDS), 6},   {NAME(ALL_RECORDS_WORDS), 48}, {NAME(ANSWER_WORDS), 5},    {NAME(PART_WORDS), 2},
-    {NAME(RECORD_LIVE), 0},    {NAME(RECORD_RUN), 1},         {NAME(RECORD_ENROLLED), 2}, {NAME(RECORD_STD), 3},
-    {NAME(RECORD_STD_HYP), 4}, {NAME(RECORD_VENDOR_HYP), 5},  {NAME(ANSWER_VERDICT), 0},  {NAME(ANSWER_V0), 1},
-    {NAME(ANSWER_V1), 2},      {NAME(ANSWER_V2), 3},          {NAME(ANSWER_V3), 4},       {NAME(PART_BEGIN), 0},
-    {NAME(PART_LENGTH), 1},
+    {NAME(SLOTS), 8},           {NAME(GRANULE_SIZE), 4096}, {NAME(MAX_FRAMES), 16384},  {NAME(MAX_GRANULES), 4096},
+    {NAME(ANSWER_WORDS), 5},    {NAME(PART_WORDS), 2},      {NAME(RECORD_LIVE), 0},     {NAME(RECORD_RUN), 1},
+    {NAME(RECORD_ENROLLED), 2}, {NAME(RECORD_STD), 3},      {NAME(RECORD_STD_HYP), 4},  {NAME(RECORD_VENDOR_HYP), 5},
+    {NAME(ANSWER_VERDICT), 0},  {NAME(ANSWER_V0), 1},       {NAME(ANSWER_V1), 2},       {NAME(ANSWER_V2), 3},
+    {NAME(ANSWER_V3), 4},       {NAME(PART_BEGIN), 0},      {NAME(PART_LENGTH), 1},
+    /* Another number of words in a record would move those of slots 1 to 7, which other cases look at. */
+    {NAME(ALL_RECORDS_WORDS), CLUNDIP_SLOTS * CLUNDIP_RECORD_WORDS},
 };
 
 static const struct constant verdicts_and_errors[] = {
