@@ -208,7 +208,7 @@ pub fn create(records: &mut Records, frames: &[u32], map: &[u32]) -> Answer {
     let Some(width) = row_width(frames, map) else {
         return Answer::verdict(BAD_LENGTH);
     };
-    let (records, _) = records.as_chunks_mut::<6>();
+    let (records, _) = records.as_chunks_mut::<RECORD>();
     let Some(slot) = records.iter().position(|record| record[LIVE] == 0) else {
         return Answer::verdict(NO_FREE_SLOT);
     };
