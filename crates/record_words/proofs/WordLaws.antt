@@ -1,14 +1,14 @@
 -- A record put in changes its own words and no others; one that is there already changes none.
-use mathlib.Core.Path.{_≡_, refl, ap, _∙_}
+use mathlib.Core.Path.{_≡_, refl}
 use mathlib.Core.Logic.{_≢_}
 use mathlib.Core.Bool.{true, false}
-use mathlib.Core.List.{List, [], _∷_, _++_, append-assoc}
-use Prim.Native.Nat.{ℕ, zero, suc, _+_, _*_, _≤_, _<_}
+use mathlib.Core.List.{List, [], _∷_, _++_, append-assoc, append-nil}
+use Prim.Native.Nat.{ℕ, zero, suc, _+_, _*_, _-_, _≤_, _<_}
 use native.Mathlib.Nat.{zero-add}
 use native.Mathlib.Omega.{arith}
 use borrow.Author.Tests.{lt-ltb, le-ltb, eq-eqb, ne-eqb}
-use lib.ListN.{length, getD, take, drop, set, take-append-drop, drop-of-length-le}
-use lib.Seq.{drop-drop, drop-cons, take-add, paste, paste-suc}
+use lib.ListN.{length, getD, take, drop, set, replicate, length-drop, take-append-drop, drop-of-length-le}
+use lib.Seq.{drop-drop, drop-cons, take-add, take-all, length-take-le, paste}
 use Rattle.records.specs.Monitor.{guestLength, wordsOf, zeroGuest, guestOf, withGuest}
 use Rattle.records.specs.Change.{changed, alters, withChange}
 use Rattle.records.specs.declared.guest.Guest.{Guest}
@@ -41,11 +41,14 @@ module _ (a b : List ℕ) (i : ℕ) where
   pub words-end : length a ≤ i → length b ≤ i → sameWords (drop i a) (drop i b) ≡ true
   words-end h k = rw (drop-of-length-le a h, drop-of-length-le b k)
 
--- a word more is copied
-pub copied : (d s : List ℕ) (j : ℕ) → j < length d → j < length s → set (paste d 0 s j) j (getD s j 0) ≡ paste d 0 s (suc j)
-copied d s j h k =
-    let here : j ≡ 0 + j = omega arith in
-    ap (λ (i : ℕ). set (paste d 0 s j) i (getD s j 0)) here ∙ paste-suc d 0 s j 0 (omega (arith, h)) k
+-- the words of slot v's record, copied over as many
+pub copied-whole : (w : List ℕ) (v : ℕ) → length w ≡ guestLength * 8 → v < 8
+    → let own = take guestLength (wordsFrom w v) in paste (replicate guestLength 0) 0 own (length own) ≡ own
+copied-whole w v h l =
+    let own = take guestLength (wordsFrom w v) in
+    let rest : guestLength ≤ length w - guestLength * v = omega (arith, h, l) in
+    let long : length own ≡ guestLength = length-take-le guestLength (wordsFrom w v) (rw (length-drop (guestLength * v) w) rest) in
+    rw long (rw (take-all guestLength own (omega (arith, long)), append-nil own))
 
 same-self : (w : List ℕ) → sameWords w w ≡ true
 same-self [] = refl

@@ -2,7 +2,7 @@ ghost use mathlib.Core.Path.{_≡_};
 ghost use Prim.Native.Nat.{_+_, _≤_};
 ghost use lib.ListN.{length};
 ghost use lib.Seq.{paste};
-ghost use Rattle.records.specs.Monitor.{guestLength, guestOf};
+ghost use Rattle.records.specs.Monitor.{guestOf};
 ghost use Rattle.records.specs.Change.{withChange};
 ghost use Rattle.record_words.specs.Words.{monitorIn, sameWords, wordsAfter};
 use records::Change;
@@ -20,7 +20,9 @@ pub fn guest_in(words: &[u64; RECORD_WORDS], slot: u64) -> Guest
     if slot < 8 {
         let all: &[u64] = words;
         let start = GUEST_WORDS * (slot as usize);
-        Guest::of_words(own_words(&all[start..start + GUEST_WORDS]))
+        let mut own = [0; GUEST_WORDS];
+        copy(&mut own, 0, &all[start..start + GUEST_WORDS]);
+        Guest::of_words(own)
     } else {
         Guest::zero()
     }
@@ -55,21 +57,9 @@ pub fn put_change(words: &mut [u64; RECORD_WORDS], slot: u64, change: Change)
             if same(guest.words(), own) {
                 return;
             }
-            put_words(words, GUEST_WORDS * (slot as usize), own);
+            copy(words, GUEST_WORDS * (slot as usize), &own);
         }
     }
-}
-
-// The words of a record, taken out of where they are lent.
-fn own_words(words: &[u64]) -> [u64; GUEST_WORDS]
-    requires { ⌜ length (now words) ≡ guestLength ⌝ }
-    ensures { λ r. ⌜ r ≡ now (words .entry) ⌝ }
-{
-    let mut own = [0; GUEST_WORDS];
-    for i in 0..GUEST_WORDS {
-        own[i] = words[i];
-    }
-    own
 }
 
 // Whether two records have the same words.
@@ -84,12 +74,12 @@ fn same(left: [u64; GUEST_WORDS], right: [u64; GUEST_WORDS]) -> bool
     true
 }
 
-// Writes the words of a record, the first to this place.
-fn put_words(words: &mut [u64], start: usize, own: [u64; GUEST_WORDS])
-    requires { ⌜ start + guestLength ≤ length (now words) ⌝ }
-    ensures { λ _. ⌜ now (words .exit) ≡ paste (now (words .entry)) start own guestLength ⌝ }
+// Copies words, the first to this place.
+fn copy(to: &mut [u64], at: usize, from: &[u64])
+    requires { ⌜ at + length (now from) ≤ length (now to) ⌝ }
+    ensures { λ _. ⌜ now (to .exit) ≡ paste (now (to .entry)) at (now (from .entry)) (length (now (from .entry))) ⌝ }
 {
-    for i in 0..GUEST_WORDS {
-        words[start + i] = own[i];
+    for i in 0..from.len() {
+        to[at + i] = from[i];
     }
 }

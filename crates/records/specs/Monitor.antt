@@ -9,7 +9,7 @@ use Rattle.records.specs.declared.guest.Guest.{Guest}
 use Rattle.records.specs.declared.monitor.Monitor.{Monitor}
 
 -- a record field by field: only in guestWith, in the two that set some fields and keep the others, and in its words
-abbrev pub guestWith : Bool → Bool → Bool → ℕ → ℕ → ℕ → Guest
+abbrev guestWith : Bool → Bool → Bool → ℕ → ℕ → ℕ → Guest
 guestWith l r e a b c = record { live = l; run = r; enrolled = e; std = a; «std_hyp» = b; «vendor_hyp» = c }
 
 abbrev pub withFlags : Bool → Bool → Bool → Guest → Guest
@@ -29,7 +29,7 @@ wordsOf g =
     ∷ g .std ∷ g .«std_hyp» ∷ g .«vendor_hyp» ∷ []
 
 -- a flag word other than 0 counts as set
-abbrev pub isSet : ℕ → Bool
+abbrev isSet : ℕ → Bool
 isSet n = not (eqb n 0)
 
 -- the record that its words say
