@@ -4,7 +4,7 @@ use mathlib.Core.Bool.{Bool, true, false, cond, _&&_}
 use mathlib.Core.List.{[], _∷_}
 use Prim.Native.Nat.{ℕ, zero, suc, _+_, _*_, _-_, _%_, _≤_, _^_, min}
 use native.Mathlib.Omega.{arith}
-use Rattle.runs.specs.Run.{Step, took, refuses as refusing, Stop, complete, refused, End, ended, oneMore, onward, run}
+use Rattle.runs.specs.Run.{Step, took, refuses, Stop, complete, refused, End, ended, oneMore, onward, run}
 use Rattle.runs.proofs.Runs.{countOf, run-at-most}
 use Rattle.runs.proofs.Pieces.{told}
 use lib.ListN.{length}
@@ -35,7 +35,7 @@ use Rattle.functions.specs.declared.rules.Condition.the-variants.{Enrolment}
 use Rattle.functions.specs.declared.rules.Error.the-variants.{NotSupported}
 use Rattle.guest_hypercalls.specs.Calls.{actOf, hypercallOf}
 use Rattle.claims.specs.SingleSteps.{RangeCall, share, unshare, rangeGuardMap, rangeGuardUnmap, numberOf, At, at, singleStep}
-use Rattle.claims.specs.Pieces.{refuses, callAt, differing, CountsChanges}
+use Rattle.claims.specs.Pieces.{isRangeRefusal, callAt, differing, CountsChanges}
 use Rattle.claims.specs.R1.{TellsChanges}
 use Rattle.claims.proofs.CallAgrees.{functionBy, number-asked, call-agrees}
 use Rattle.claims.proofs.Changes.{single-steps-count}
@@ -53,7 +53,7 @@ run-shape step n s = on (step s)
 
     on : (o : Step At Numbers) → Shape s (onward (λ t. run step n t) s o)
     on (took t) = more (run step n t)
-    on (refusing r) = first r
+    on (refuses r) = first r
 
 -- an answer a with the state t at b, that reads as what a run told
 read-told : (s t : State) (b : ℕ) (a : Numbers) (e : End At Numbers) → Shape (at b s) e → countOf e ≤ rangeLimit → CountsChanges s e
@@ -81,7 +81,7 @@ module _ (c : RangeCall) (r0 : ℕ) (number : r0 % 2 ^ 32 ≡ numberOf c) (v b r
       let few = run-at-most (singleStep c v r3) (suc n) (at b s) in
       let reads : callAt r0 v r3 m (at b s) ≡ told e = rw steps at (call-agrees c r0 number v r3 m (at b s) h) in
       let a = numbersOf (called m .answer) in
-      let p = read-told s (called m .left) b a e (run-shape (singleStep c v r3) n (at b s)) (omega arith) (single-steps-count c v r3 s (suc n) b) (refuses a) reads in
+      let p = read-told s (called m .left) b a e (run-shape (singleStep c v r3) n (at b s)) (omega arith) (single-steps-count c v r3 s (suc n) b) (isRangeRefusal a) reads in
       record { done = p .0; none = p .1 }
 
   -- "Count 0 means 1 for share and unshare"
@@ -89,7 +89,7 @@ module _ (c : RangeCall) (r0 : ℕ) (number : r0 % 2 ^ 32 ≡ numberOf c) (v b r
   unfolding hypercallOf called actOf
   zero-is-one f o e same any = rw (e, same, any)
 
-  refused-tells : (a : Answer) → refuses (numbersOf a) ≡ true → TellsChanges s (answered s a)
+  refused-tells : (a : Answer) → isRangeRefusal (numbersOf a) ≡ true → TellsChanges s (answered s a)
   refused-tells a h = record { done = λ e. let z : _≡_ {A = ℕ} 0 1 = cc in absurd (omega arith); none = λ e. refl }
 
   -- "a range guard call with count 0 answers NS"

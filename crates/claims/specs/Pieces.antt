@@ -15,12 +15,12 @@ use Rattle.functions.specs.Rules.{registers}
 use Rattle.claims.specs.SingleSteps.{At, at}
 
 -- "A call refuses here when its answer isn't verdict 10 with R0 = 0."
-abbrev pub refuses : Numbers → Bool
-refuses a = not (eqb (a .verdict) 10 && eqb (a .v0) 0)
+abbrev pub isRangeRefusal : Numbers → Bool
+isRangeRefusal a = not (eqb (a .verdict) 10 && eqb (a .v0) 0)
 
 -- what the answer of a call at b says: it refused, or it did R1 granules and goes on at b + 4,096 × R1
 abbrev pub readAnswer : ℕ → State → Numbers → End At Numbers
-readAnswer b s a = cond (refuses a) (ended 0 (at b s) (refused a)) (ended (a .v1) (at (b + granuleSize * a .v1) s) complete)
+readAnswer b s a = cond (isRangeRefusal a) (ended 0 (at b s) (refused a)) (ended (a .v1) (at (b + granuleSize * a .v1) s) complete)
 
 abbrev pub readCall : ℕ → Answered → End At Numbers
 readCall b r = readAnswer b (r .left) (numbersOf (r .answer))
