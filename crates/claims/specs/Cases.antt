@@ -21,11 +21,11 @@ abbrev pub bench : State
 bench = state (set (replicate 256 0) 3 0x01000005) (set (replicate 512 0) 5 0x40000003) (withGuest fresh 0 caller)
 
 -- the answers of the sheet: 0 with R1 granules done, −3, −1
-abbrev pub done : ℕ → Numbers
-done k = numbers 10 0 k 0 0
+abbrev pub returnsDone : ℕ → Numbers
+returnsDone k = numbers 10 0 k 0 0
 
-abbrev pub minus : ℕ → Numbers
-minus n = verdictWith 10 (2 ^ 64 - n)
+abbrev pub returnsError : ℕ → Numbers
+returnsError n = verdictWith 10 (2 ^ 64 - n)
 
 -- calls of slot 0
 abbrev pub hypercall0 : ℕ → ℕ → ℕ → ℕ → Call
@@ -40,18 +40,18 @@ enroll = hypercall0 0xC6000006 0 0 0
 -- in the sheet's order
 abbrev pub cases : List Case
 cases =
-    case bench [] (share 0x5000 2) (done 1)
-    ∷ case bench (share 0x5000 2 ∷ []) (share 0x6000 1) (minus 3)
-    ∷ case bench [] (share 0x5000 0) (done 1)
-    ∷ case bench [] (share 0x5001 0) (minus 3)
-    ∷ case bench [] (hypercall0 0xC6000003 0x5000 0 1) (minus 3)
-    ∷ case bench [] (share 0xFFFFFFFFFFFFF000 2) (minus 3)
+    case bench [] (share 0x5000 2) (returnsDone 1)
+    ∷ case bench (share 0x5000 2 ∷ []) (share 0x6000 1) (returnsError 3)
+    ∷ case bench [] (share 0x5000 0) (returnsDone 1)
+    ∷ case bench [] (share 0x5001 0) (returnsError 3)
+    ∷ case bench [] (hypercall0 0xC6000003 0x5000 0 1) (returnsError 3)
+    ∷ case bench [] (share 0xFFFFFFFFFFFFF000 2) (returnsError 3)
     -- "Granule 63 private": frame 4 is donated there
-    ∷ case bench (Donate 0 4 63 ∷ []) (share 0x3F000 2) (done 1)
-    ∷ case bench [] (hypercall0 0x1C6000003 0x5000 0 0) (done 1)
-    ∷ case bench [] (hypercall0 0xC600000C 0 0 0) (minus 1)
-    ∷ case bench (enroll ∷ []) (hypercall0 0xC600000A 0x7000 0 0) (minus 1)
-    ∷ case bench (enroll ∷ []) (hypercall0 0xC6000007 0x5000 0 0) (minus 1)
+    ∷ case bench (Donate 0 4 63 ∷ []) (share 0x3F000 2) (returnsDone 1)
+    ∷ case bench [] (hypercall0 0x1C6000003 0x5000 0 0) (returnsDone 1)
+    ∷ case bench [] (hypercall0 0xC600000C 0 0 0) (returnsError 1)
+    ∷ case bench (enroll ∷ []) (hypercall0 0xC600000A 0x7000 0 0) (returnsError 1)
+    ∷ case bench (enroll ∷ []) (hypercall0 0xC6000007 0x5000 0 0) (returnsError 1)
     ∷ case bench [] (Abort 0 0x6000) (verdictWith 11 0x6000)
     ∷ case bench (enroll ∷ []) (Abort 0 0x6000) (verdictWith 12 0)
     ∷ []

@@ -45,105 +45,105 @@ noFrames = state [] rows records
 abbrev pub shortMap : State
 shortMap = state frames (replicate 15 0) records
 
-abbrev pub done : ℕ → Numbers
-done a = verdictWith 0 a
+abbrev pub hostDoneWith : ℕ → Numbers
+hostDoneWith a = verdictWith 0 a
 
-abbrev pub refused : ℕ → Numbers
-refused q = verdictWith q 0
+abbrev pub hostRefused : ℕ → Numbers
+hostRefused q = verdictWith q 0
 
 -- verdict 9 with −n
-abbrev pub minus : ℕ → Numbers
-minus n = verdictWith 9 (2 ^ 64 - n)
+abbrev pub registerRefused : ℕ → Numbers
+registerRefused n = verdictWith 9 (2 ^ 64 - n)
 
 -- create, donate
 abbrev pub creations : List Case
 creations =
-    case sound [] Create (done 2)
+    case sound [] Create (hostDoneWith 2)
     -- the dead record's bitmap is not kept
-    ∷ case sound (Create ∷ []) (RegisterRead 2 2) (done 1)
-    ∷ case sound (Create ∷ []) Create (done 3)
-    ∷ case damaged [] Create (refused 6)
-    ∷ case (state frames rows allLive) [] Create (refused 7)
-    ∷ case (state [] rows allLive) [] Create (refused 1)
-    ∷ case noFrames [] Create (refused 1)
-    ∷ case sound [] (Donate 1 2 1) (done 0)
-    ∷ case sound (Donate 1 2 1 ∷ []) (Access 2) (done 0)
-    ∷ case shortMap [] (Donate 8 4 2) (refused 1)
-    ∷ case sound [] (Donate 8 4 2) (refused 2)
-    ∷ case sound [] (Donate 2 2 1) (refused 2)
-    ∷ case sound [] (Donate 1 4 1) (refused 4)
-    ∷ case damaged [] (Donate 0 0 2) (refused 4)
+    ∷ case sound (Create ∷ []) (RegisterRead 2 2) (hostDoneWith 1)
+    ∷ case sound (Create ∷ []) Create (hostDoneWith 3)
+    ∷ case damaged [] Create (hostRefused 6)
+    ∷ case (state frames rows allLive) [] Create (hostRefused 7)
+    ∷ case (state [] rows allLive) [] Create (hostRefused 1)
+    ∷ case noFrames [] Create (hostRefused 1)
+    ∷ case sound [] (Donate 1 2 1) (hostDoneWith 0)
+    ∷ case sound (Donate 1 2 1 ∷ []) (Access 2) (hostDoneWith 0)
+    ∷ case shortMap [] (Donate 8 4 2) (hostRefused 1)
+    ∷ case sound [] (Donate 8 4 2) (hostRefused 2)
+    ∷ case sound [] (Donate 2 2 1) (hostRefused 2)
+    ∷ case sound [] (Donate 1 4 1) (hostRefused 4)
+    ∷ case damaged [] (Donate 0 0 2) (hostRefused 4)
     -- frame waiting; frame shared; granule guarded; granule private
-    ∷ case sound [] (Donate 1 3 1) (refused 5)
-    ∷ case sound [] (Donate 1 1 1) (refused 5)
-    ∷ case sound [] (Donate 1 2 0) (refused 5)
-    ∷ case sound [] (Donate 0 2 0) (refused 5)
+    ∷ case sound [] (Donate 1 3 1) (hostRefused 5)
+    ∷ case sound [] (Donate 1 1 1) (hostRefused 5)
+    ∷ case sound [] (Donate 1 2 0) (hostRefused 5)
+    ∷ case sound [] (Donate 0 2 0) (hostRefused 5)
     -- granule damaged and frame waiting; frame damaged and granule not vacant
-    ∷ case damaged [] (Donate 0 3 0) (refused 6)
-    ∷ case damaged [] (Donate 0 0 1) (refused 6)
+    ∷ case damaged [] (Donate 0 3 0) (hostRefused 6)
+    ∷ case damaged [] (Donate 0 0 1) (hostRefused 6)
     ∷ []
 
 -- run, remove
 abbrev pub runs : List Case
 runs =
-    case sound [] (Run 1) (done 0)
-    ∷ case sound [] (Run 0) (done 0)
-    ∷ case sound [] (Run 2) (refused 2)
-    ∷ case noFrames [] (Run 1) (done 0)
+    case sound [] (Run 1) (hostDoneWith 0)
+    ∷ case sound [] (Run 0) (hostDoneWith 0)
+    ∷ case sound [] (Run 2) (hostRefused 2)
+    ∷ case noFrames [] (Run 1) (hostDoneWith 0)
     -- two frames; a guarded granule is none
-    ∷ case sound [] (Remove 0) (done 2)
-    ∷ case sound [] (Remove 1) (done 0)
-    ∷ case sound (Remove 0 ∷ []) (Access 1) (done 0)
-    ∷ case sound (Remove 0 ∷ []) Create (done 0)
-    ∷ case sound (Remove 0 ∷ []) (Remove 0) (refused 2)
-    ∷ case damaged [] (Remove 0) (refused 6)
-    ∷ case damaged [] (Remove 2) (refused 2)
-    ∷ case shortMap [] (Remove 0) (refused 1)
+    ∷ case sound [] (Remove 0) (hostDoneWith 2)
+    ∷ case sound [] (Remove 1) (hostDoneWith 0)
+    ∷ case sound (Remove 0 ∷ []) (Access 1) (hostDoneWith 0)
+    ∷ case sound (Remove 0 ∷ []) Create (hostDoneWith 0)
+    ∷ case sound (Remove 0 ∷ []) (Remove 0) (hostRefused 2)
+    ∷ case damaged [] (Remove 0) (hostRefused 6)
+    ∷ case damaged [] (Remove 2) (hostRefused 2)
+    ∷ case shortMap [] (Remove 0) (hostRefused 1)
     ∷ []
 
 -- cleared, access, show
 abbrev pub looks : List Case
 looks =
-    case sound [] (Cleared 3) (done 0)
-    ∷ case sound (Cleared 3 ∷ []) (Access 3) (done 1)
-    ∷ case sound (Cleared 3 ∷ []) (Cleared 3) (refused 8)
-    ∷ case sound [] (Cleared 0) (refused 8)
-    ∷ case damaged [] (Cleared 0) (refused 6)
-    ∷ case damaged [] (Cleared 4) (refused 4)
-    ∷ case shortMap [] (Cleared 4) (refused 1)
-    ∷ case sound [] (Access 0) (done 0)
-    ∷ case sound [] (Access 1) (done 1)
-    ∷ case sound [] (Access 2) (done 1)
-    ∷ case sound [] (Access 3) (done 0)
-    ∷ case damaged [] (Access 0) (refused 6)
+    case sound [] (Cleared 3) (hostDoneWith 0)
+    ∷ case sound (Cleared 3 ∷ []) (Access 3) (hostDoneWith 1)
+    ∷ case sound (Cleared 3 ∷ []) (Cleared 3) (hostRefused 8)
+    ∷ case sound [] (Cleared 0) (hostRefused 8)
+    ∷ case damaged [] (Cleared 0) (hostRefused 6)
+    ∷ case damaged [] (Cleared 4) (hostRefused 4)
+    ∷ case shortMap [] (Cleared 4) (hostRefused 1)
+    ∷ case sound [] (Access 0) (hostDoneWith 0)
+    ∷ case sound [] (Access 1) (hostDoneWith 1)
+    ∷ case sound [] (Access 2) (hostDoneWith 1)
+    ∷ case sound [] (Access 3) (hostDoneWith 0)
+    ∷ case damaged [] (Access 0) (hostRefused 6)
     -- a third word that names it does not count
-    ∷ case damaged [] (Access 2) (done 1)
-    ∷ case sound [] (Access (2 ^ 64 - 1)) (refused 4)
-    ∷ case shortMap [] (Access 2) (refused 1)
-    ∷ case sound [] (Show 0) (done 0)
-    ∷ case damaged [] (Show 0) (done 0)
-    ∷ case noFrames [] (Show 0) (done 0)
-    ∷ case sound [] (Show 2) (refused 2)
-    ∷ case shortMap [] (Show 2) (refused 1)
+    ∷ case damaged [] (Access 2) (hostDoneWith 1)
+    ∷ case sound [] (Access (2 ^ 64 - 1)) (hostRefused 4)
+    ∷ case shortMap [] (Access 2) (hostRefused 1)
+    ∷ case sound [] (Show 0) (hostDoneWith 0)
+    ∷ case damaged [] (Show 0) (hostDoneWith 0)
+    ∷ case noFrames [] (Show 0) (hostDoneWith 0)
+    ∷ case sound [] (Show 2) (hostRefused 2)
+    ∷ case shortMap [] (Show 2) (hostRefused 1)
     ∷ []
 
 -- firmware registers
 abbrev pub registerCases : List Case
 registerCases =
-    case noFrames [] (RegisterRead 1 2) (done 1)
-    ∷ case sound [] (RegisterRead 1 0) (done 0)
-    ∷ case sound [] (RegisterRead 1 3) (minus 2)
-    ∷ case sound [] (RegisterRead 1 (2 ^ 32)) (minus 2)
-    ∷ case sound [] (RegisterRead 2 3) (refused 2)
-    ∷ case sound [] (RegisterWrite 1 2 0) (done 0)
-    ∷ case sound (RegisterWrite 1 2 0 ∷ []) (RegisterRead 1 2) (done 0)
-    ∷ case sound [] (RegisterWrite 1 2 2) (minus 22)
-    ∷ case sound [] (RegisterWrite 1 0 1) (minus 22)
+    case noFrames [] (RegisterRead 1 2) (hostDoneWith 1)
+    ∷ case sound [] (RegisterRead 1 0) (hostDoneWith 0)
+    ∷ case sound [] (RegisterRead 1 3) (registerRefused 2)
+    ∷ case sound [] (RegisterRead 1 (2 ^ 32)) (registerRefused 2)
+    ∷ case sound [] (RegisterRead 2 3) (hostRefused 2)
+    ∷ case sound [] (RegisterWrite 1 2 0) (hostDoneWith 0)
+    ∷ case sound (RegisterWrite 1 2 0 ∷ []) (RegisterRead 1 2) (hostDoneWith 0)
+    ∷ case sound [] (RegisterWrite 1 2 2) (registerRefused 22)
+    ∷ case sound [] (RegisterWrite 1 0 1) (registerRefused 22)
     -- after run: another register, a bad value, the same value
-    ∷ case sound [] (RegisterWrite 0 3 1) (minus 2)
-    ∷ case sound [] (RegisterWrite 0 1 1) (minus 22)
-    ∷ case sound [] (RegisterWrite 0 2 1) (minus 16)
-    ∷ case sound [] (RegisterWrite 2 3 1) (refused 2)
+    ∷ case sound [] (RegisterWrite 0 3 1) (registerRefused 2)
+    ∷ case sound [] (RegisterWrite 0 1 1) (registerRefused 22)
+    ∷ case sound [] (RegisterWrite 0 2 1) (registerRefused 16)
+    ∷ case sound [] (RegisterWrite 2 3 1) (hostRefused 2)
     ∷ []
 
 abbrev pub hostCases : List Case
