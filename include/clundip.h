@@ -70,20 +70,20 @@ extern "C" {
 #define CLUNDIP_PART_LENGTH UINT64_C(1) /* words */
 
 /* Verdicts. Values that are not named are zero. */
-#define CLUNDIP_VERDICT_DONE         UINT64_C(0)  /* host call done */
-#define CLUNDIP_VERDICT_LENGTH       UINT64_C(1)  /* a table's length is out of bounds */
-#define CLUNDIP_VERDICT_SLOT         UINT64_C(2)  /* slot above 7, or not live */
-#define CLUNDIP_VERDICT_NEVER_RUN    UINT64_C(3)  /* hypercall or abort of a guest that was never run */
-#define CLUNDIP_VERDICT_OUT_OF_RANGE UINT64_C(4)  /* frame not below F, or donated granule not below W */
-#define CLUNDIP_VERDICT_IN_USE       UINT64_C(5)  /* donate: frame not the host's, or granule not vacant */
-#define CLUNDIP_VERDICT_DAMAGED      UINT64_C(6)  /* a word that the call must look at is damaged */
-#define CLUNDIP_VERDICT_NO_FREE_SLOT UINT64_C(7)  /* create: all eight slots are live */
-#define CLUNDIP_VERDICT_NOT_WAITING  UINT64_C(8)  /* cleared: the frame does not wait to be cleared */
-#define CLUNDIP_VERDICT_REGISTER     UINT64_C(9)  /* firmware register refused; v0 is -2, -22 or -16 */
-#define CLUNDIP_VERDICT_RETURN       UINT64_C(10) /* return to the guest; v0 to v3 are its R0 to R3 */
-#define CLUNDIP_VERDICT_MMIO_EXIT    UINT64_C(11) /* the host emulates an access; v0 is the IPA */
-#define CLUNDIP_VERDICT_EXCEPTION    UINT64_C(12) /* the guest gets an exception */
-#define CLUNDIP_VERDICT_RESUME       UINT64_C(13) /* the guest resumes */
+#define CLUNDIP_VERDICT_DONE             UINT64_C(0)  /* host call done */
+#define CLUNDIP_VERDICT_BAD_LENGTH       UINT64_C(1)  /* a table's length is out of bounds */
+#define CLUNDIP_VERDICT_NO_GUEST         UINT64_C(2)  /* slot above 7, or not live */
+#define CLUNDIP_VERDICT_NEVER_RUN        UINT64_C(3)  /* hypercall or abort of a guest that was never run */
+#define CLUNDIP_VERDICT_OUT_OF_RANGE     UINT64_C(4)  /* frame not below F, or donated granule not below W */
+#define CLUNDIP_VERDICT_IN_USE           UINT64_C(5)  /* donate: frame not the host's, or granule not vacant */
+#define CLUNDIP_VERDICT_DAMAGED          UINT64_C(6)  /* a word that the call must look at is damaged */
+#define CLUNDIP_VERDICT_NO_FREE_SLOT     UINT64_C(7)  /* create: all eight slots are live */
+#define CLUNDIP_VERDICT_NOT_WAITING      UINT64_C(8)  /* cleared: the frame does not wait to be cleared */
+#define CLUNDIP_VERDICT_REGISTER_REFUSED UINT64_C(9)  /* firmware register refused; v0 is -2, -22 or -16 */
+#define CLUNDIP_VERDICT_RETURN           UINT64_C(10) /* return to the guest; v0 to v3 are its R0 to R3 */
+#define CLUNDIP_VERDICT_MMIO_EXIT        UINT64_C(11) /* the host emulates an access; v0 is the IPA */
+#define CLUNDIP_VERDICT_EXCEPTION        UINT64_C(12) /* the guest gets an exception */
+#define CLUNDIP_VERDICT_RESUME           UINT64_C(13) /* the guest resumes */
 
 /* v0 of verdict 9: negative numbers as 64 bits. */
 #define CLUNDIP_ENOENT UINT64_C(0xFFFFFFFFFFFFFFFE) /* -2: no such register */

@@ -38,9 +38,9 @@ pub mod verdict {
     /// A host call is done.
     pub const DONE: u64 = 0;
     /// A table's length is out of bounds.
-    pub const LENGTH: u64 = 1;
+    pub const BAD_LENGTH: u64 = 1;
     /// The slot is above 7, or no guest is live in it.
-    pub const SLOT: u64 = 2;
+    pub const NO_GUEST: u64 = 2;
     /// A hypercall or an abort of a guest that was never run.
     pub const NEVER_RUN: u64 = 3;
     /// A frame is not in the frame table, or a donated granule not in the row.
@@ -54,7 +54,7 @@ pub mod verdict {
     /// Cleared: the frame does not wait to be cleared.
     pub const NOT_WAITING: u64 = 8;
     /// A firmware register is refused; v0 is -2, -22 or -16 as 64 bits.
-    pub const REGISTER: u64 = 9;
+    pub const REGISTER_REFUSED: u64 = 9;
     /// Return to the guest; v0 to v3 are its registers R0 to R3.
     pub const RETURN: u64 = 10;
     /// The host is to emulate an access; v0 is the IPA in bytes.

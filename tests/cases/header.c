@@ -25,15 +25,15 @@ static const struct constant bounds_and_orders[] = {
 
 static const struct constant verdicts_and_errors[] = {
     {NAME(VERDICT_DONE), 0},
-    {NAME(VERDICT_LENGTH), 1},
-    {NAME(VERDICT_SLOT), 2},
+    {NAME(VERDICT_BAD_LENGTH), 1},
+    {NAME(VERDICT_NO_GUEST), 2},
     {NAME(VERDICT_NEVER_RUN), 3},
     {NAME(VERDICT_OUT_OF_RANGE), 4},
     {NAME(VERDICT_IN_USE), 5},
     {NAME(VERDICT_DAMAGED), 6},
     {NAME(VERDICT_NO_FREE_SLOT), 7},
     {NAME(VERDICT_NOT_WAITING), 8},
-    {NAME(VERDICT_REGISTER), 9},
+    {NAME(VERDICT_REGISTER_REFUSED), 9},
     {NAME(VERDICT_RETURN), 10},
     {NAME(VERDICT_MMIO_EXIT), 11},
     {NAME(VERDICT_EXCEPTION), 12},

@@ -3,7 +3,7 @@ use Prim.Native.Nat.{ℕ}
 use lib.IntN.{ℤ}
 use Rattle.words.specs.Register.{registerOf}
 use Rattle.answers.specs.declared.answer.Answer.{Answer}
-use Rattle.answers.specs.declared.answer.Answer.the-variants.{Done, BadLength, NoGuest, NeverRun, OutOfRange, NotFree, Damaged, NoFreeSlot, NotWaiting, RegisterRefused, Return, MmioExit, Exception, Resume}
+use Rattle.answers.specs.declared.answer.Answer.the-variants.{Done, BadLength, NoGuest, NeverRun, OutOfRange, InUse, Damaged, NoFreeSlot, NotWaiting, RegisterRefused, Return, MmioExit, Exception, Resume}
 use Rattle.answers.specs.declared.answer.Numbers.{Numbers}
 
 abbrev pub numbers : ℕ → ℕ → ℕ → ℕ → ℕ → Numbers
@@ -27,7 +27,7 @@ numbersOf BadLength = verdictWith 1 0
 numbersOf NoGuest = verdictWith 2 0
 numbersOf NeverRun = verdictWith 3 0
 numbersOf OutOfRange = verdictWith 4 0
-numbersOf NotFree = verdictWith 5 0
+numbersOf InUse = verdictWith 5 0
 numbersOf Damaged = verdictWith 6 0
 numbersOf NoFreeSlot = verdictWith 7 0
 numbersOf NotWaiting = verdictWith 8 0

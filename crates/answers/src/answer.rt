@@ -15,7 +15,7 @@ pub enum Answer {
     // A frame is not below F, or a granule not below W.
     OutOfRange,
     // A frame is not the host's, or a granule not vacant.
-    NotFree,
+    InUse,
     // A word that the call must look at is damaged.
     Damaged,
     // All eight slots are live.
@@ -80,7 +80,7 @@ impl Answer {
             Answer::NoGuest => Numbers::with(2, 0, 0),
             Answer::NeverRun => Numbers::with(3, 0, 0),
             Answer::OutOfRange => Numbers::with(4, 0, 0),
-            Answer::NotFree => Numbers::with(5, 0, 0),
+            Answer::InUse => Numbers::with(5, 0, 0),
             Answer::Damaged => Numbers::with(6, 0, 0),
             Answer::NoFreeSlot => Numbers::with(7, 0, 0),
             Answer::NotWaiting => Numbers::with(8, 0, 0),

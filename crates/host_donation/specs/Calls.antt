@@ -20,7 +20,7 @@ use Rattle.commands.specs.Tests.{Tests}
 use Rattle.commands.specs.Command.{View, bothTables, givenSlot, hostSuccess, Effect, writeTables, Command, command, performed}
 use Rattle.records.specs.declared.change.Change.the-variants.{Kept}
 use Rattle.answers.specs.declared.answer.Answer.{Answer}
-use Rattle.answers.specs.declared.answer.Answer.the-variants.{OutOfRange, NotFree, Damaged}
+use Rattle.answers.specs.declared.answer.Answer.the-variants.{OutOfRange, InUse, Damaged}
 
 abbrev pub granuleVacant : GranuleState → Bool
 granuleVacant granule-state.Vacant = true
@@ -42,8 +42,8 @@ donateTests f g frames map v =
     ∷ (ltb g (widthOf (length map)), OutOfRange)
     ∷ (granuleUndamaged (pairAt frames map v g), Damaged)
     ∷ (frameUndamaged (pairOf frames map f), Damaged)
-    ∷ (frameHosts (pairOf frames map f), NotFree)
-    ∷ (granuleVacant (pairAt frames map v g), NotFree)
+    ∷ (frameHosts (pairOf frames map f), InUse)
+    ∷ (granuleVacant (pairAt frames map v g), InUse)
     ∷ []
 
 -- "Donate a host frame to a vacant granule of a live guest: it becomes private."

@@ -88,6 +88,6 @@ fn donate_admission(
         )
         .check(granule_undamaged(here), Answer::Damaged)
         .check(frame_undamaged(there), Answer::Damaged)
-        .check(frame_hosts(there), Answer::NotFree)
-        .check(granule_vacant(here), Answer::NotFree)
+        .check(frame_hosts(there), Answer::InUse)
+        .check(granule_vacant(here), Answer::InUse)
 }
