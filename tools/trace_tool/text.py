@@ -8,7 +8,7 @@ VERSION = 1
 RAW_BYTES = 32  # of a bad record, on one line of text
 
 
-class Kind(NamedTuple):
+class RecordKind(NamedTuple):
     number: int
     name: str
     takes_slot: bool  # if not, the slot byte is ignored
@@ -23,7 +23,7 @@ class Kind(NamedTuple):
 
 
 class Record(NamedTuple):
-    kind: Kind
+    kind: RecordKind
     slot: int
     arguments: tuple[int, ...]
 
@@ -38,16 +38,16 @@ class TextError(Exception):
 
 
 KINDS = (
-    Kind(1, "create", False, ()),
-    Kind(2, "donate", True, ("FRAME", "GRANULE")),
-    Kind(3, "run", True, ()),
-    Kind(4, "hypercall", True, ("R0", "R1", "R2", "R3"), optional=3),
-    Kind(5, "abort", True, ("IPA",)),
-    Kind(6, "remove", True, ()),
-    Kind(7, "cleared", False, ("FRAME",)),
-    Kind(8, "access", False, ("FRAME",)),
-    Kind(9, "register_read", True, ("REGISTER",)),
-    Kind(10, "register_write", True, ("REGISTER", "VALUE")),
+    RecordKind(1, "create", False, ()),
+    RecordKind(2, "donate", True, ("FRAME", "GRANULE")),
+    RecordKind(3, "run", True, ()),
+    RecordKind(4, "hypercall", True, ("R0", "R1", "R2", "R3"), optional=3),
+    RecordKind(5, "abort", True, ("IPA",)),
+    RecordKind(6, "remove", True, ()),
+    RecordKind(7, "cleared", False, ("FRAME",)),
+    RecordKind(8, "access", False, ("FRAME",)),
+    RecordKind(9, "register_read", True, ("REGISTER",)),
+    RecordKind(10, "register_write", True, ("REGISTER", "VALUE")),
 )
 FUNCTIONS = {
     "features": 0x86000000, "uid": 0x8600FF01, "memory_info": 0xC6000002, "share": 0xC6000003,

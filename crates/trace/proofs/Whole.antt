@@ -22,7 +22,7 @@ use Rattle.rows.specs.WholeRow.{rowVacant}
 use Rattle.host_donation.specs.Calls.{donateOf}
 use Rattle.host_guests.specs.Calls.{createOf, runOf}
 use Rattle.calls.specs.Step.{step}
-use Rattle.trace_kinds.specs.Kind.{kindOf}
+use Rattle.trace_kinds.specs.RecordKind.{kindOf}
 use Rattle.trace_records.specs.Record.{decodeOf}
 use Rattle.trace_records.specs.declared.decoding.Decoded.{Decoded}
 use Rattle.trace_records.specs.declared.decoding.Decoded.the-variants.{Record, Bad, Unfinished}

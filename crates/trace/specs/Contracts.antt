@@ -12,7 +12,7 @@ use Rattle.trace_lines.specs.Puts.{Puts}
 use Rattle.trace_lines.specs.declared.lines.Line.the-variants as line
 use Rattle.trace.specs.declared.session.Session.{Session}
 use Rattle.trace.specs.declared.session.Answered.{Answered}
-use Rattle.trace.specs.declared.session.Progress.{Progress}
+use Rattle.trace.specs.declared.session.ReplayProgress.{ReplayProgress}
 use Rattle.trace.specs.Replay.{Replay, replay, waiting, advanceOf, textBefore, outcomeOf}
 
 -- what a session keeps, with its tables
@@ -32,7 +32,7 @@ Continues start bytes left n text =
     (later : List ℕ) → outcomeOf start (bytes ++ later) ≡ textBefore text (outcomeOf left (drop n bytes ++ later))
 
 -- of the bytes at hand: the text that was put goes before what is left; and there is nothing more to answer, or no room for another line
-pub record Replays (start left : Replay) (bytes : List ℕ) (out : List ℕ) (r : Progress) : Type 0 where
+pub record Replays (start left : Replay) (bytes : List ℕ) (out : List ℕ) (r : ReplayProgress) : Type 0 where
   pub continues : Continues start bytes left (r .taken) (take (r .put) out)
   pub within : r .taken ≤ length bytes
   pub room : r .put ≤ 65536

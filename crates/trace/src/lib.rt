@@ -6,6 +6,6 @@ mod tail;
 
 pub use session::FRAMES;
 pub use session::MAP_WORDS;
-pub use session::Progress;
+pub use session::ReplayProgress;
 pub use session::Session;
 pub use tail::keep;

@@ -41,7 +41,7 @@ pub struct Answered {
 
 // How far a replay got: the bytes taken, the bytes put into the buffer, and whether it waits for more input. Where it does not, the buffer is
 // full, and what is left of the input is to be handed over again.
-pub struct Progress {
+pub struct ReplayProgress {
     pub session: Session,
     pub taken: usize,
     pub put: usize,
@@ -70,12 +70,12 @@ impl Session {
         map: &mut [u32],
         bytes: &[u8],
         out: &mut [u8; ROOM],
-    ) -> Progress
+    ) -> ReplayProgress
         ensures { λ r. ⌜ Replays (kept self (now (frames .entry)) (now (map .entry))) (kept (r .session) (now (frames .exit)) (now (map .exit)))
             (now (bytes .entry)) (now (out .exit)) r ⌝ }
     {
         if self.stopped {
-            return Progress {
+            return ReplayProgress {
                 session: self,
                 taken: bytes.len(),
                 put: 0,
@@ -89,7 +89,7 @@ impl Session {
         while put <= ROOM - LONGEST {
             match decode(&bytes[taken..]) {
                 Decoded::Unfinished => {
-                    return Progress {
+                    return ReplayProgress {
                         session: Session {
                             monitor,
                             answered,
@@ -101,7 +101,7 @@ impl Session {
                     };
                 }
                 Decoded::Bad => {
-                    return Progress {
+                    return ReplayProgress {
                         session: Session {
                             monitor,
                             answered,
@@ -127,7 +127,7 @@ impl Session {
                 }
             }
         }
-        Progress {
+        ReplayProgress {
             session: Session {
                 monitor,
                 answered,

@@ -1,5 +1,5 @@
 ghost use mathlib.Core.Path.{_≡_};
-ghost use Rattle.trace_kinds.specs.Kind.{kindOf, argumentsOf, callOf, lengthOf};
+ghost use Rattle.trace_kinds.specs.RecordKind.{kindOf, argumentsOf, callOf, lengthOf};
 use calls::Call;
 use functions::Registers;
 
@@ -7,7 +7,7 @@ use functions::Registers;
 pub const VERSION: u8 = 1;
 
 // The kinds of records.
-pub enum Kind {
+pub enum RecordKind {
     Create,
     Donate,
     Run,
@@ -21,27 +21,27 @@ pub enum Kind {
 }
 
 // The kinds in the order of their numbers, from 1.
-pub(crate) const KINDS: [Kind; 10] = [
-    Kind::Create,
-    Kind::Donate,
-    Kind::Run,
-    Kind::Hypercall,
-    Kind::Abort,
-    Kind::Remove,
-    Kind::Cleared,
-    Kind::Access,
-    Kind::RegisterRead,
-    Kind::RegisterWrite,
+pub(crate) const KINDS: [RecordKind; 10] = [
+    RecordKind::Create,
+    RecordKind::Donate,
+    RecordKind::Run,
+    RecordKind::Hypercall,
+    RecordKind::Abort,
+    RecordKind::Remove,
+    RecordKind::Cleared,
+    RecordKind::Access,
+    RecordKind::RegisterRead,
+    RecordKind::RegisterWrite,
 ];
 
 // What a number stands for.
 pub enum Found {
-    Known(Kind),
+    Known(RecordKind),
     // It belongs to no kind.
     Unknown,
 }
 
-impl Kind {
+impl RecordKind {
     pub fn of(number: u8) -> Found
         ensures { λ r. ⌜ r ≡ kindOf number ⌝ }
     {
@@ -61,16 +61,16 @@ impl Kind {
         ensures { λ r. ⌜ r ≡ argumentsOf self ⌝ }
     {
         match self {
-            Kind::Create => 0,
-            Kind::Donate => 2,
-            Kind::Run => 0,
-            Kind::Hypercall => 4,
-            Kind::Abort => 1,
-            Kind::Remove => 0,
-            Kind::Cleared => 1,
-            Kind::Access => 1,
-            Kind::RegisterRead => 1,
-            Kind::RegisterWrite => 2,
+            RecordKind::Create => 0,
+            RecordKind::Donate => 2,
+            RecordKind::Run => 0,
+            RecordKind::Hypercall => 4,
+            RecordKind::Abort => 1,
+            RecordKind::Remove => 0,
+            RecordKind::Cleared => 1,
+            RecordKind::Access => 1,
+            RecordKind::RegisterRead => 1,
+            RecordKind::RegisterWrite => 2,
         }
     }
 
@@ -79,14 +79,14 @@ impl Kind {
         ensures { λ r. ⌜ r ≡ callOf self slot a b c d ⌝ }
     {
         match self {
-            Kind::Create => Call::Create,
-            Kind::Donate => Call::Donate {
+            RecordKind::Create => Call::Create,
+            RecordKind::Donate => Call::Donate {
                 slot,
                 frame: a,
                 granule: b,
             },
-            Kind::Run => Call::Run { slot },
-            Kind::Hypercall => Call::Hypercall {
+            RecordKind::Run => Call::Run { slot },
+            RecordKind::Hypercall => Call::Hypercall {
                 slot,
                 registers: Registers {
                     r0: a,
@@ -95,12 +95,12 @@ impl Kind {
                     r3: d,
                 },
             },
-            Kind::Abort => Call::Abort { slot, ipa: a },
-            Kind::Remove => Call::Remove { slot },
-            Kind::Cleared => Call::Cleared { frame: a },
-            Kind::Access => Call::Access { frame: a },
-            Kind::RegisterRead => Call::RegisterRead { slot, register: a },
-            Kind::RegisterWrite => Call::RegisterWrite {
+            RecordKind::Abort => Call::Abort { slot, ipa: a },
+            RecordKind::Remove => Call::Remove { slot },
+            RecordKind::Cleared => Call::Cleared { frame: a },
+            RecordKind::Access => Call::Access { frame: a },
+            RecordKind::RegisterRead => Call::RegisterRead { slot, register: a },
+            RecordKind::RegisterWrite => Call::RegisterWrite {
                 slot,
                 register: a,
                 value: b,

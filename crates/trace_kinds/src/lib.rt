@@ -4,6 +4,6 @@ mod kinds;
 mod starts;
 
 pub use kinds::Found;
-pub use kinds::Kind;
+pub use kinds::RecordKind;
 pub use kinds::VERSION;
 pub use starts::start_holds;

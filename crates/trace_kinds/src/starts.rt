@@ -1,8 +1,8 @@
 ghost use mathlib.Core.Path.{_≡_};
 ghost use lib.ListN.{getD};
-ghost use Rattle.trace_kinds.specs.Kind.{someLength, startHolds};
+ghost use Rattle.trace_kinds.specs.RecordKind.{someLength, startHolds};
 use crate::kinds::KINDS;
-use crate::kinds::Kind;
+use crate::kinds::RecordKind;
 use crate::kinds::VERSION;
 
 // A byte, or another where there is none.
@@ -33,7 +33,7 @@ pub fn start_holds(s: &[u8]) -> bool
 {
     let version = VERSION as usize;
     if byte_or(s, 0, 0) == 0 {
-        if some_length(byte_or(s, 1, Kind::Create.length())) {
+        if some_length(byte_or(s, 1, RecordKind::Create.length())) {
             return byte_or(s, 2, version) == version;
         }
         return false;

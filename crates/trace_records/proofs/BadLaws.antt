@@ -9,11 +9,11 @@ use lib.Dec.{eqb, ltb}
 use lib.ListN.{length, getD}
 use Rattle.words.proofs.Booleans.{both-true, false-unless}
 use Rattle.calls.specs.declared.call.Call.{Call}
-use Rattle.trace_kinds.specs.declared.kinds.Kind.{Kind}
+use Rattle.trace_kinds.specs.declared.kinds.RecordKind.{RecordKind}
 use Rattle.trace_kinds.specs.declared.kinds.Found.{Found}
 use Rattle.trace_kinds.specs.declared.kinds.Found.the-variants.{Known, Unknown}
 use Rattle.trace_records.specs.declared.decoding.Decoded.the-variants.{Bad, Unfinished}
-use Rattle.trace_kinds.specs.Kind.{version, kindOf, lengthOf, someLength, startHolds}
+use Rattle.trace_kinds.specs.RecordKind.{version, kindOf, lengthOf, someLength, startHolds}
 use Rattle.trace_records.specs.Record.{bigEndian, askedIn, recordIn, decodeOf}
 use Rattle.trace_kinds.proofs.KindLaws.{length-at-most, length-some}
 use Rattle.trace_records.proofs.DecodeLaws.{header, byHeader, Seen, few, enough, seen, by-start, four}
@@ -31,7 +31,7 @@ began (a ∷ b ∷ []) t h =
 began (a ∷ b ∷ v ∷ s) t h = h
 
 -- a header of a kind begins a record
-header-begins : (a b v k : ℕ) (s : List ℕ) (x : Kind) → kindOf k ≡ Known x → header a b v (lengthOf x) ≡ true → startHolds (a ∷ b ∷ v ∷ k ∷ s) ≡ true
+header-begins : (a b v k : ℕ) (s : List ℕ) (x : RecordKind) → kindOf k ≡ Known x → header a b v (lengthOf x) ≡ true → startHolds (a ∷ b ∷ v ∷ k ∷ s) ≡ true
 header-begins a b v k s x e h =
     let p = both-true (eqb (bigEndian (a ∷ b ∷ [])) (lengthOf x)) (eqb v version) h in
     let same = eqb-true (bigEndian (a ∷ b ∷ [])) (lengthOf x) (p .0) in

@@ -5,7 +5,7 @@ use Prim.Native.Nat.{ℕ}
 use Rattle.calls.specs.declared.call.Call.the-variants as call
 use Rattle.trace_records.specs.declared.decoding.Decoded.{Decoded}
 use Rattle.trace_records.specs.declared.decoding.Decoded.the-variants.{Record, Bad, Unfinished}
-use Rattle.trace_kinds.specs.Kind.{kindOf}
+use Rattle.trace_kinds.specs.RecordKind.{kindOf}
 use Rattle.trace_records.specs.Record.{decodeOf}
 
 -- eight bytes with all places different

@@ -12,7 +12,7 @@ use Rattle.trace_kinds.specs.declared.kinds.Found.{Found}
 use Rattle.trace_kinds.specs.declared.kinds.Found.the-variants.{Known, Unknown}
 use Rattle.trace_records.specs.declared.decoding.Decoded.{Decoded}
 use Rattle.trace_records.specs.declared.decoding.Decoded.the-variants.{Record, Bad, Unfinished}
-use Rattle.trace_kinds.specs.Kind.{version, kindOf, lengthOf, startHolds}
+use Rattle.trace_kinds.specs.RecordKind.{version, kindOf, lengthOf, startHolds}
 use Rattle.trace_records.specs.Record.{bigEndian, kindIn, askedIn, recordIn, decodeOf}
 use Rattle.trace_kinds.proofs.KindLaws.{length-at-most}
 use Rattle.trace_records.proofs.KindLaws.{asked-stays}

@@ -8,8 +8,8 @@ use borrow.Author.Tests.{ltb-true}
 use lib.Dec.{ltb}
 use lib.ListN.{length, drop, length-drop, List·getD-append}
 use lib.Seq.{take-append-le, drop-append-le}
-use Rattle.trace_kinds.specs.Kind.{argumentsOf, lengthOf}
-use Rattle.trace_kinds.specs.declared.kinds.Kind.{Kind}
+use Rattle.trace_kinds.specs.RecordKind.{argumentsOf, lengthOf}
+use Rattle.trace_kinds.specs.declared.kinds.RecordKind.{RecordKind}
 use Rattle.trace_records.specs.Record.{slotIn, argumentIn, askedIn}
 
 slot-stays : (s t : List ℕ) → 4 < length s → slotIn (s ++ t) ≡ slotIn s
@@ -24,7 +24,7 @@ argument-stays n k s t h = by (ltb k n) refl
         rw (drop-append-le (5 + 8 * k) s t (omega arith), take-append-le 8 (drop (5 + 8 * k) s) t (simp length-drop (omega arith)))
     by false e = rw e
 
-pub asked-stays : (k : Kind) (s t : List ℕ) → 2 + lengthOf k ≤ length s → askedIn k (s ++ t) ≡ askedIn k s
+pub asked-stays : (k : RecordKind) (s t : List ℕ) → 2 + lengthOf k ≤ length s → askedIn k (s ++ t) ≡ askedIn k s
 asked-stays k s t h =
     let n = argumentsOf k in
     rw (

@@ -9,12 +9,12 @@ use lib.Dec.{eqb, ltb}
 use lib.ListN.{length, replicate, length-append, length-replicate}
 use Rattle.words.proofs.Booleans.{both-true}
 use Rattle.calls.specs.declared.call.Call.{Call}
-use Rattle.trace_kinds.specs.declared.kinds.Kind.{Kind}
-use Rattle.trace_kinds.specs.declared.kinds.Kind.the-variants.{Create}
+use Rattle.trace_kinds.specs.declared.kinds.RecordKind.{RecordKind}
+use Rattle.trace_kinds.specs.declared.kinds.RecordKind.the-variants.{Create}
 use Rattle.trace_kinds.specs.declared.kinds.Found.{Found}
 use Rattle.trace_kinds.specs.declared.kinds.Found.the-variants.{Known, Unknown}
 use Rattle.trace_records.specs.declared.decoding.Decoded.the-variants.{Record, Bad, Unfinished}
-use Rattle.trace_kinds.specs.Kind.{version, kindOf, lengthOf, someLength, startHolds}
+use Rattle.trace_kinds.specs.RecordKind.{version, kindOf, lengthOf, someLength, startHolds}
 use Rattle.trace_records.specs.Record.{bigEndian, askedIn, recordIn, decodeOf}
 use Rattle.trace_kinds.proofs.KindLaws.{Has, has, some-known}
 use Rattle.trace_records.proofs.DecodeLaws.{header, four, unfinished-by}
@@ -28,7 +28,7 @@ behind : (s u : List ℕ) → Finishes (s ++ u) → Finishes s
 behind s u (finishes t c n e) = finishes (u ++ t) c n (rw (← append-assoc s u t) e)
 
 -- four bytes that are a header, with zeros behind them
-header-finishes : (a b v k : ℕ) (s : List ℕ) (x : Kind) → kindOf k ≡ Known x → header a b v (lengthOf x) ≡ true → Finishes (a ∷ b ∷ v ∷ k ∷ s)
+header-finishes : (a b v k : ℕ) (s : List ℕ) (x : RecordKind) → kindOf k ≡ Known x → header a b v (lengthOf x) ≡ true → Finishes (a ∷ b ∷ v ∷ k ∷ s)
 header-finishes a b v k s x e h =
     let size = 2 + lengthOf x in
     let zeros = replicate {A = ℕ} size 0 in

@@ -6,8 +6,8 @@ use Prim.Native.Nat.{ℕ, _+_, _*_}
 use lib.Dec.{eqb, ltb}
 use lib.ListN.{length, getD, take, drop}
 use Rattle.calls.specs.declared.call.Call.{Call}
-use Rattle.trace_kinds.specs.Kind.{version, kindOf, argumentsOf, callOf, lengthOf, startHolds}
-use Rattle.trace_kinds.specs.declared.kinds.Kind.{Kind}
+use Rattle.trace_kinds.specs.RecordKind.{version, kindOf, argumentsOf, callOf, lengthOf, startHolds}
+use Rattle.trace_kinds.specs.declared.kinds.RecordKind.{RecordKind}
 use Rattle.trace_kinds.specs.declared.kinds.Found.{Found}
 use Rattle.trace_kinds.specs.declared.kinds.Found.the-variants.{Known, Unknown}
 use Rattle.trace_records.specs.declared.decoding.Decoded.{Decoded}
@@ -39,7 +39,7 @@ abbrev pub argumentIn : List ℕ → ℕ → ℕ → ℕ
 argumentIn s n k = cond (ltb k n) (bigEndian (take 8 (drop (5 + 8 * k) s))) 0
 
 -- what a whole record of a kind asks for
-abbrev pub askedIn : Kind → List ℕ → Call
+abbrev pub askedIn : RecordKind → List ℕ → Call
 askedIn k s =
     let n = argumentsOf k in
     callOf k (slotIn s) (argumentIn s n 0) (argumentIn s n 1) (argumentIn s n 2) (argumentIn s n 3)

@@ -1,14 +1,14 @@
 ghost use mathlib.Core.Path.{_≡_};
 ghost use Prim.Native.Nat.{_+_, _≤_};
 ghost use lib.ListN.{length};
-ghost use Rattle.trace_kinds.specs.Kind.{lengthOf};
+ghost use Rattle.trace_kinds.specs.RecordKind.{lengthOf};
 ghost use Rattle.trace_records.specs.Record.{askedIn, decodeOf};
 use crate::fields::argument;
 use crate::fields::header_holds;
 use crate::fields::slot;
 use calls::Call;
 use trace_kinds::Found;
-use trace_kinds::Kind;
+use trace_kinds::RecordKind;
 use trace_kinds::start_holds;
 
 // What the first bytes of a log are.
@@ -31,7 +31,7 @@ pub fn decode(s: &[u8]) -> Decoded
         }
         return Decoded::Bad;
     }
-    let found = Kind::of(s[3]);
+    let found = RecordKind::of(s[3]);
     let Found::Known(kind) = found else {
         return Decoded::Bad;
     };
@@ -47,7 +47,7 @@ pub fn decode(s: &[u8]) -> Decoded
 }
 
 // What a whole record of a kind asks for.
-fn asked(kind: Kind, s: &[u8]) -> Call
+fn asked(kind: RecordKind, s: &[u8]) -> Call
     requires { ⌜ 2 + lengthOf kind ≤ length (now s) ⌝ }
     ensures { λ r. ⌜ r ≡ askedIn kind (now (s .entry)) ⌝ }
 {

@@ -3,8 +3,8 @@ use mathlib.Core.Path.{_≡_}
 use borrow.Author.Tests.{eq-eqb, ne-eqb}
 use mathlib.Core.Bool.{true, false}
 use lib.ListN.{getD}
-use Rattle.trace_kinds.specs.Kind.{lengthOf, someLength}
-use Rattle.trace_kinds.specs.declared.kinds.Kind.the-variants.{Create}
+use Rattle.trace_kinds.specs.RecordKind.{lengthOf, someLength}
+use Rattle.trace_kinds.specs.declared.kinds.RecordKind.the-variants.{Create}
 use borrow.Author.Needs.{needs}
 use Rattle.trace_kinds.proofs.starts.start_holds.Statement.{statement}
 use Rattle.trace_kinds.proofs.starts.start_holds.Tie as tie

@@ -1,7 +1,7 @@
 -- Kind by kind.
 use borrow.Author.Needs.{needs}
-use Rattle.trace_kinds.proofs.kinds.Kind.call.Statement.{statement}
-use Rattle.trace_kinds.proofs.kinds.Kind.call.Tie as tie
+use Rattle.trace_kinds.proofs.kinds.RecordKind.call.Statement.{statement}
+use Rattle.trace_kinds.proofs.kinds.RecordKind.call.Tie as tie
 
 pub call-spec : {M : Type 1} → statement M
 call-spec =

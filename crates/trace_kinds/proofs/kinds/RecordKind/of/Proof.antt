@@ -3,12 +3,12 @@ use mathlib.Core.Path.{_≡_, sym}
 use native.Mathlib.Omega.{arith}
 use lib.ListN.{List·getD-eq-default}
 use mathlib.Core.List.{map, _∷_}
-use Rattle.trace_kinds.specs.Kind.{kinds, kindOf}
+use Rattle.trace_kinds.specs.RecordKind.{kinds, kindOf}
 use Rattle.trace_kinds.specs.declared.kinds.Found.the-variants.{Known, Unknown}
 use Rattle.trace_kinds.proofs.KindLaws.{numbered}
 use borrow.Author.Needs.{needs}
-use Rattle.trace_kinds.proofs.kinds.Kind.of.Statement.{statement}
-use Rattle.trace_kinds.proofs.kinds.Kind.of.Tie as tie
+use Rattle.trace_kinds.proofs.kinds.RecordKind.of.Statement.{statement}
+use Rattle.trace_kinds.proofs.kinds.RecordKind.of.Tie as tie
 
 returns : tie.Need-returns
 returns c = sym (numbered (c .before .before .before .args .number) _ (c .before .before .if1 .taken) (c .before .if2 .taken))

@@ -7,8 +7,8 @@ use lib.ListN.{getD}
 use Rattle.functions.specs.Rules.{registers}
 use Rattle.calls.specs.declared.call.Call.{Call}
 use Rattle.calls.specs.declared.call.Call.the-variants as call
-use Rattle.trace_kinds.specs.declared.kinds.Kind.{Kind}
-use Rattle.trace_kinds.specs.declared.kinds.Kind.the-variants.{Create, Donate, Run, Hypercall, Abort, Remove, Cleared, Access, RegisterRead, RegisterWrite}
+use Rattle.trace_kinds.specs.declared.kinds.RecordKind.{RecordKind}
+use Rattle.trace_kinds.specs.declared.kinds.RecordKind.the-variants.{Create, Donate, Run, Hypercall, Abort, Remove, Cleared, Access, RegisterRead, RegisterWrite}
 use Rattle.trace_kinds.specs.declared.kinds.Found.{Found}
 use Rattle.trace_kinds.specs.declared.kinds.Found.the-variants.{Known, Unknown}
 
@@ -17,14 +17,14 @@ abbrev pub version : ℕ
 version = 1
 
 -- the kinds in the order of their numbers, from 1
-abbrev pub kinds : List Kind
+abbrev pub kinds : List RecordKind
 kinds = Create ∷ Donate ∷ Run ∷ Hypercall ∷ Abort ∷ Remove ∷ Cleared ∷ Access ∷ RegisterRead ∷ RegisterWrite ∷ []
 
 unfoldable pub kindOf : ℕ → Found
 kindOf n = getD (Unknown ∷ map Known kinds) n Unknown
 
 -- "Kinds (arguments)"
-abbrev pub argumentsOf : Kind → ℕ
+abbrev pub argumentsOf : RecordKind → ℕ
 argumentsOf Create = 0
 argumentsOf Donate = 2
 argumentsOf Run = 0
@@ -37,7 +37,7 @@ argumentsOf RegisterRead = 1
 argumentsOf RegisterWrite = 2
 
 -- what a record of a kind asks for, by its slot byte and its arguments; one that it does not have is not looked at. "Create, cleared and access ignore the slot byte."
-abbrev pub callOf : Kind → ℕ → ℕ → ℕ → ℕ → ℕ → Call
+abbrev pub callOf : RecordKind → ℕ → ℕ → ℕ → ℕ → ℕ → Call
 callOf Create slot a b c d = call.Create
 callOf Donate slot a b c d = call.Donate slot a b
 callOf Run slot a b c d = call.Run slot
@@ -50,11 +50,11 @@ callOf RegisterRead slot a b c d = call.RegisterRead slot a
 callOf RegisterWrite slot a b c d = call.RegisterWrite slot a b
 
 -- "length of the rest": version, kind and slot byte, and eight bytes for each argument
-abbrev pub lengthOf : Kind → ℕ
+abbrev pub lengthOf : RecordKind → ℕ
 lengthOf k = 3 + 8 * argumentsOf k
 
 -- whether some kind of a list has a length
-abbrev pub someOf : List Kind → ℕ → Bool
+abbrev pub someOf : List RecordKind → ℕ → Bool
 someOf [] n = false
 someOf (k ∷ ks) n = eqb (lengthOf k) n || someOf ks n
 
