@@ -22,11 +22,11 @@ use Rattle.calls.specs.declared.call.Call.{Call}
 use Rattle.calls.specs.declared.call.Call.the-variants.{Create, Donate, Run, Remove, Cleared, Access, Show, RegisterRead, RegisterWrite, Hypercall, Abort}
 use Rattle.history.specs.Log.{FrameChange, afterCall, lastFrom}
 use Rattle.history.specs.History.{logOf}
-use Rattle.history.proofs.Seen.{own, look, index-below, lengths-hold}
+use Rattle.history.proofs.StateWords.{own, look, index-below, lengths-hold}
 use Rattle.history.proofs.WordsSound.{WordsSound}
 use Rattle.history.proofs.RecordLaws.{zero-sound}
-use Rattle.history.proofs.Held.{ownerAfter}
-use Rattle.history.proofs.Kept.{Kept, test, sure}
+use Rattle.history.proofs.FramesAtGranules.{ownerAfter}
+use Rattle.history.proofs.Preserved.{Preserved, test, sure}
 use Rattle.history.proofs.StillCalls.{calm-kept}
 use Rattle.history.proofs.FrameCalls.{keep-donate, keep-cleared, keep-access}
 use Rattle.history.proofs.SlotCalls.{keep-create, keep-remove}
@@ -34,29 +34,29 @@ use Rattle.history.proofs.GuestCalls.{keep-hypercall, keep-abort}
 
 -- the calls that write no table, by what their tests find
 module _ {F W : ℕ} {s : State} (i : WordsSound F W s) where
-  keep-run : (v : ℕ) → Kept F W s (Run v) (step (Run v) s)
+  keep-run : (v : ℕ) → Preserved F W s (Run v) (step (Run v) s)
   unfolding numbersOf
   keep-run v = calm-kept i (Run v) (λ f n x. refl) (test (λ q. (refl, refl)) λ a. tt) (λ p. lived v (guestOf (s .monitor) v) (p .0) .1)
 
-  keep-show : (v : ℕ) → Kept F W s (Show v) (step (Show v) s)
+  keep-show : (v : ℕ) → Preserved F W s (Show v) (step (Show v) s)
   unfolding numbersOf
   keep-show v =
       calm-kept i (Show v) (λ f n x. refl)
       (test (sure _ (both-true (framesHold (length (s .frames))) (mapHolds (length (s .map))) (lengths-hold (i .sized)) .1)) λ a. test (λ q. (refl, refl)) λ b. tt)
       (λ p. refl)
 
-  keep-read : (v n : ℕ) → Kept F W s (RegisterRead v n) (step (RegisterRead v n) s)
+  keep-read : (v n : ℕ) → Preserved F W s (RegisterRead v n) (step (RegisterRead v n) s)
   unfolding numbersOf
   keep-read v n = calm-kept i (RegisterRead v n) (λ f k x. refl) (test (λ q. (refl, refl)) λ a. test (λ q. (refl, refl)) λ b. tt) (λ p. refl)
 
-  keep-write : (v n y : ℕ) → Kept F W s (RegisterWrite v n y) (step (RegisterWrite v n y) s)
+  keep-write : (v n y : ℕ) → Preserved F W s (RegisterWrite v n y) (step (RegisterWrite v n y) s)
   unfolding numbersOf
   keep-write v n y =
       calm-kept i (RegisterWrite v n y) (λ f k x. refl)
       (test (λ q. (refl, refl)) λ a. test (λ q. (refl, refl)) λ b. test (λ q. (refl, refl)) λ c. test (λ q. (refl, refl)) λ d. tt)
       (λ p. (lived v (guestOf (s .monitor) v) (p .0) .1, p .1 .1 .0))
 
-pub keep : {F W : ℕ} {s : State} → WordsSound F W s → (c : Call) → Kept F W s c (step c s)
+pub keep : {F W : ℕ} {s : State} → WordsSound F W s → (c : Call) → Preserved F W s c (step c s)
 keep i Create = keep-create i
 keep i (Donate v f g) = keep-donate i v f g
 keep i (Run v) = keep-run i v

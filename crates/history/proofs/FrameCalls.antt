@@ -18,15 +18,15 @@ use Rattle.calls.specs.Step.{step}
 use Rattle.calls.specs.declared.call.Call.the-variants.{Donate, Cleared, Access}
 use Rattle.history.specs.Log.{FrameChange}
 use Rattle.history.specs.Log as log
-use Rattle.history.proofs.Seen.{own, look, lengths-hold, width-is, at-or-not}
+use Rattle.history.proofs.StateWords.{own, look, lengths-hold, width-is, at-or-not}
 use Rattle.history.proofs.WordsSound.{WordsSound}
 use Rattle.history.proofs.SoundLaws.{granule-found, frame-found, frame-sound}
-use Rattle.history.proofs.Tied.{Tied, tied-named, tied-apart, FrameFree}
-use Rattle.history.proofs.Moves.{pair-put, frame-put}
-use Rattle.history.proofs.Held.{ownerAfter}
-use Rattle.history.proofs.Kept.{Kept, test, sure, call-kept}
+use Rattle.history.proofs.NamingPairs.{NameOnlyEachOther, pair-named, pair-apart, FrameFree}
+use Rattle.history.proofs.WordMoves.{pair-put, frame-put}
+use Rattle.history.proofs.FramesAtGranules.{ownerAfter}
+use Rattle.history.proofs.Preserved.{Preserved, test, sure, call-kept}
 use Rattle.history.proofs.StillCalls.{calm-kept}
-use Rattle.history.proofs.Looks.{hosts-word, waiting-word, vacant-word, granule-undamaged, below-frames, below-width}
+use Rattle.history.proofs.PassedTests.{hosts-word, waiting-word, vacant-word, granule-undamaged, below-frames, below-width}
 
 -- a call about one frame, which says so in the log
 one-logged : (s t : State) (f : ℕ) (c : FrameChange) → own t f ≡ ownerAfter c → ((k : ℕ) → k ≢ f → own t k ≡ own s k)
@@ -37,7 +37,7 @@ one-logged s t f c here there k x =
     (λ n e. rw (ne-eqb k f n) (there k n ∙ e))
 
 module _ {F W : ℕ} {s : State} (i : WordsSound F W s) where
-  pub keep-donate : (v f g : ℕ) → Kept F W s (Donate v f g) (step (Donate v f g) s)
+  pub keep-donate : (v f g : ℕ) → Preserved F W s (Donate v f g) (step (Donate v f g) s)
   unfolding numbersOf own
   keep-donate v f g =
       call-kept i (Donate v f g)
@@ -57,17 +57,17 @@ module _ {F W : ℕ} {s : State} (i : WordsSound F W s) where
       let below = below-width i g (p .1 .1 .1 .0) in
       let host : own s f ≡ frame-word.Host = hosts-word (own s f) (rw (frame-found i f inside) at (p .1 .1 .1 .1 .1 .1 .0)) in
       let vacant : look W s v g ≡ map-word.Vacant = vacant-word (look W s v g) (rw (granule-found i v g slot below) at (p .1 .1 .1 .1 .1 .1 .1 .0)) in
-      let old : Tied v g f (own s f) (look W s v g) = rw (host, vacant) (tied-apart v g f frame-word.Host map-word.Vacant tt tt) in
+      let old : NameOnlyEachOther v g f (own s f) (look W s v g) = rw (host, vacant) (pair-apart v g f frame-word.Host map-word.Vacant tt tt) in
       let d = frame-word.Owned v false g in
       let e = map-word.Frame false f in
-      let put = pair-put i v g f slot below inside old d e (tied-named v g f false) live .0 in
+      let put = pair-put i v g f slot below inside old d e (pair-named v g f false) live .0 in
       record {
         sound = rw (width-is (i .sized)) (put .sound);
         logged = λ k l x q. one-logged s (effected v s (donated f g (viewOf v s)) .left) f (log.donated v g) (put .frame) (put .frames) k x q;
         usual-verdict = refl;
       })
 
-  pub keep-cleared : (f : ℕ) → Kept F W s (Cleared f) (step (Cleared f) s)
+  pub keep-cleared : (f : ℕ) → Preserved F W s (Cleared f) (step (Cleared f) s)
   unfolding numbersOf
   keep-cleared f =
       call-kept i (Cleared f)
@@ -86,7 +86,7 @@ module _ {F W : ℕ} {s : State} (i : WordsSound F W s) where
         usual-verdict = refl;
       })
 
-  pub keep-access : (f : ℕ) → Kept F W s (Access f) (step (Access f) s)
+  pub keep-access : (f : ℕ) → Preserved F W s (Access f) (step (Access f) s)
   unfolding numbersOf
   keep-access f =
       calm-kept i (Access f) (λ f n x. refl)

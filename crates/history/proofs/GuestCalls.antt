@@ -35,12 +35,12 @@ use Rattle.guest_aborts.specs.Calls.{accessAnswer, unbacked, guestAccessOf}
 use Rattle.calls.specs.Step.{step}
 use Rattle.calls.specs.declared.call.Call.the-variants.{Hypercall, Abort}
 use Rattle.history.specs.Log.{shared, unshared, relinquished}
-use Rattle.history.proofs.Seen.{own, lengths-hold}
+use Rattle.history.proofs.StateWords.{own, lengths-hold}
 use Rattle.history.proofs.WordsSound.{WordsSound}
 use Rattle.history.proofs.StillCalls.{still-kept, calm-kept}
-use Rattle.history.proofs.Kept.{usual, Kept, test, sure, refused-kept, call-kept, refusals-then, passes-both}
-use Rattle.history.proofs.Looks.{granule-undamaged, below-width}
-use Rattle.history.proofs.Asked.{after-asked}
+use Rattle.history.proofs.Preserved.{usual, Preserved, test, sure, refused-kept, call-kept, refusals-then, passes-both}
+use Rattle.history.proofs.PassedTests.{granule-undamaged, below-width}
+use Rattle.history.proofs.LoggedFunctions.{after-asked}
 use Rattle.history.proofs.RangeCalls.{error-fine, change-kept, moved, unmoved}
 
 module _ {F W : ℕ} {s : State} (i : WordsSound F W s) (v : ℕ) (r : Registers) (live : guestOf (s .monitor) v .live ≡ true) (has-run : guestOf (s .monitor) v .run ≡ true) where
@@ -49,7 +49,7 @@ module _ {F W : ℕ} {s : State} (i : WordsSound F W s) (v : ℕ) (r : Registers
 
   -- what each function does where nothing bars it
   function-kept : (asked : Function) → askedBy (r .r0) ≡ asked → permits (callRowOf asked .condition) (guestOf (s .monitor) v) ≡ true
-      → Kept F W s (Hypercall v r) (effected v s (actOf r (callRowOf asked .error) (callRowOf asked .action) (viewOf v s)))
+      → Preserved F W s (Hypercall v r) (effected v s (actOf r (callRowOf asked .error) (callRowOf asked .action) (viewOf v s)))
   unfolding actOf callRowOf numbersOf own
   function-kept Features is may = refused-kept i (Hypercall v r) v _ (refl, refl)
   function-kept Uid is may = refused-kept i (Hypercall v r) v _ (refl, refl)
@@ -78,7 +78,7 @@ module _ {F W : ℕ} {s : State} (i : WordsSound F W s) (v : ℕ) (r : Registers
   function-kept Unknown is may = refused-kept i (Hypercall v r) v _ (refl, refl)
 
 module _ {F W : ℕ} {s : State} (i : WordsSound F W s) (v : ℕ) where
-  pub keep-hypercall : (r : Registers) → Kept F W s (Hypercall v r) (step (Hypercall v r) s)
+  pub keep-hypercall : (r : Registers) → Preserved F W s (Hypercall v r) (step (Hypercall v r) s)
   unfolding numbersOf
   keep-hypercall r =
       let g = guestOf (s .monitor) v in
@@ -121,7 +121,7 @@ module _ {F W : ℕ} {s : State} (i : WordsSound F W s) (v : ℕ) where
           (granule-undamaged i v (granuleOf a) slot (below-width i (granuleOf a) e))
       on false e = unbacked-usual a (guestOf (s .monitor) v)
 
-  pub keep-abort : (a : ℕ) → Kept F W s (Abort v a) (step (Abort v a) s)
+  pub keep-abort : (a : ℕ) → Preserved F W s (Abort v a) (step (Abort v a) s)
   unfolding numbersOf
   keep-abort a =
       calm-kept i (Abort v a) (λ f n x. refl)

@@ -39,12 +39,12 @@ use Rattle.history.specs.History.{logOf, privateOrWaiting}
 use Rattle.history.specs.Reachable.{Reachable}
 use Rattle.history.specs.Sound.{Sound}
 use Rattle.history.specs.Cases.{logs, found, expected}
-use Rattle.history.proofs.Seen.{own, look, lengths-hold, width-is}
+use Rattle.history.proofs.StateWords.{own, look, lengths-hold, width-is}
 use Rattle.history.proofs.WordsSound.{WordsSound}
 use Rattle.history.proofs.SoundLaws.{frameBy, frame-found, frame-sound, words-sound, sound-words}
-use Rattle.history.proofs.Held.{ownerAfter}
+use Rattle.history.proofs.FramesAtGranules.{ownerAfter}
 use Rattle.history.proofs.CallsKept.{keep, calls-sound, calls-logged, fresh-own, fresh-sound}
-use Rattle.history.proofs.UndoShares.{sound-got}
+use Rattle.history.proofs.UndoShares.{sound-reached}
 
 -- access answers for a frame that its word says to be so
 access-seen : {F W : ℕ} {s : State} → WordsSound F W s → (f : ℕ) → f < F → numbersOf (step (Access f) s .answer) ≡ verdictWith 0 (openTo (frameBy (own s f)))
@@ -143,8 +143,8 @@ sound-reachable s k =
     let i = sound-words k in
     let F = length (s .frames) in
     let W = widthOf (length (s .map)) in
-    let got = sound-got F W (i .sized .bounds) s i in
-    record { F = F; W = W; allowed = i .sized .bounds; calls = got .calls; fit = got .fit; leaves = got .leaves }
+    let reached = sound-reached F W (i .sized .bounds) s i in
+    record { F = F; W = W; allowed = i .sized .bounds; calls = reached .calls; fit = reached .fit; leaves = reached .leaves }
 
 -- The invariant is exact: it holds of the states that some calls leave, and of no others.
 pub reachable-exactly : (s : State) → (Reachable s → Sound s) × (Sound s → Reachable s)

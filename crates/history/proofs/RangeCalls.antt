@@ -24,13 +24,13 @@ use Rattle.functions.specs.declared.rules.Error.the-variants.{NotSupported, Inv
 use Rattle.guest_hypercalls.specs.Calls.{finished}
 use Rattle.calls.specs.declared.call.Call.the-variants.{Hypercall}
 use Rattle.history.specs.Log.{FrameChange, among, changedWhere}
-use Rattle.history.proofs.Seen.{own}
+use Rattle.history.proofs.StateWords.{own}
 use Rattle.history.proofs.WordsSound.{WordsSound}
-use Rattle.history.proofs.Held.{ownerAfter, owner-changed}
-use Rattle.history.proofs.Taken.{hasFrame}
-use Rattle.history.proofs.Ranges.{mayMake, Reached, ReachedAt, range-reached}
-use Rattle.history.proofs.Kept.{Fine, Kept, refused-kept}
-use Rattle.history.proofs.Asked.{afterFunction, after-asked}
+use Rattle.history.proofs.FramesAtGranules.{ownerAfter, owner-changed}
+use Rattle.history.proofs.StepWrites.{hasFrame}
+use Rattle.history.proofs.Ranges.{mayMake, RangeDone, RangeDoneAt, range-done}
+use Rattle.history.proofs.Preserved.{Fine, Preserved, refused-kept}
+use Rattle.history.proofs.LoggedFunctions.{afterFunction, after-asked}
 use Rattle.history.proofs.Undamaged.{first-refused, step-undamaged}
 
 pub error-fine : (e : Error) → Fine (errorAnswer e)
@@ -45,13 +45,13 @@ module _ {F W : ℕ} {s : State} (i : WordsSound F W s) (v : ℕ) (slot : v < 8)
 
   -- what is done in a range, for a call that tells in R1 how much, or not
   abbrev pub Logs : Operation → Bool → ℕ → Type 0
-  Logs o tells k = (map frames : List ℕ) (next : ℕ) → Reached F W (s .monitor) o v s g k map frames next
+  Logs o tells k = (map frames : List ℕ) (next : ℕ) → RangeDone F W (s .monitor) o v s g k map frames next
       → (f : ℕ) → f < F → (x : FrameChange) → own s f ≡ ownerAfter x
       → own (state frames map (s .monitor)) f ≡ ownerAfter (afterFunction asked v g (cond tells k 0) x)
 
   done-kept : (o : Operation) (e : Error) (tells : Bool) (j : ℕ) (q : Stop Refusal) (map frames : List ℕ) (next : ℕ) → Logs o tells (suc j)
-      → Reached F W (s .monitor) o v s g (suc j) map frames next
-      → Kept F W s (Hypercall v r) (effected v s (finished e tells (ended (suc j) (place map frames next) q)))
+      → RangeDone F W (s .monitor) o v s g (suc j) map frames next
+      → Preserved F W s (Hypercall v r) (effected v s (finished e tells (ended (suc j) (place map frames next) q)))
   unfolding numbersOf
   done-kept o e tells j q map frames next logs at = record {
     sound = at .sound;
@@ -62,8 +62,8 @@ module _ {F W : ℕ} {s : State} (i : WordsSound F W s) (v : ℕ) (slot : v < 8)
   }
 
   ended-kept : (o : Operation) (e : Error) (tells : Bool) (n : ℕ) (d : End Place Refusal) → run (tableStep o v) n (place (s .map) (s .frames) g) ≡ d
-      → ((j : ℕ) → suc j ≤ n → Logs o tells (suc j)) → Holds (ReachedAt F W (s .monitor) o v s g) 0 d
-      → Kept F W s (Hypercall v r) (effected v s (finished e tells d))
+      → ((j : ℕ) → suc j ≤ n → Logs o tells (suc j)) → Holds (RangeDoneAt F W (s .monitor) o v s g) 0 d
+      → Preserved F W s (Hypercall v r) (effected v s (finished e tells d))
   ended-kept o e tells n (ended zero (place map frames next) complete) is′ logs at = refused-kept i (Hypercall v r) v _ (error-fine e)
   ended-kept o e tells n (ended zero (place map frames next) outOfFuel) is′ logs at = refused-kept i (Hypercall v r) v _ (error-fine e)
   ended-kept o e tells n (ended zero (place map frames next) (refused notDone)) is′ logs at = refused-kept i (Hypercall v r) v _ (error-fine e)
@@ -75,14 +75,14 @@ module _ {F W : ℕ} {s : State} (i : WordsSound F W s) (v : ℕ) (slot : v < 8)
 
   pub change-kept : (o : Operation) (e : Error) (tells : Bool) (n : ℕ) → mayMake (guestOf (s .monitor) v) (o .makes) ≡ true
       → ((j : ℕ) → suc j ≤ n → Logs o tells (suc j))
-      → Kept F W s (Hypercall v r) (effected v s (finished e tells (run (tableStep o v) n (place (s .map) (s .frames) g))))
+      → Preserved F W s (Hypercall v r) (effected v s (finished e tells (run (tableStep o v) n (place (s .map) (s .frames) g))))
   change-kept o e tells n may logs =
       ended-kept o e tells n (run (tableStep o v) n (place (s .map) (s .frames) g)) refl logs
-      (range-reached F W (s .monitor) o v slot may (s .map) (s .frames) g n i)
+      (range-done F W (s .monitor) o v slot may (s .map) (s .frames) g n i)
 
   -- a frame at one of the granules done is logged as what its word became
   pub moved : (o : Operation) (k n : ℕ) (made : ℕ → ℕ → FrameChange) → k ≡ n → ((u h : ℕ) → frameThen (o .makes) u h ≡ ownerAfter (made u h))
-      → (map frames : List ℕ) (next : ℕ) → Reached F W (s .monitor) o v s g k map frames next
+      → (map frames : List ℕ) (next : ℕ) → RangeDone F W (s .monitor) o v s g k map frames next
       → (f : ℕ) → f < F → (x : FrameChange) → own s f ≡ ownerAfter x
       → own (state frames map (s .monitor)) f ≡ ownerAfter (changedWhere (among v g n) made x)
   moved o k n made e same map frames next at f l x h =
@@ -91,6 +91,6 @@ module _ {F W : ℕ} {s : State} (i : WordsSound F W s) (v : ℕ) (slot : v < 8)
 
   -- and a granule that is guarded or unguarded has no frame
   pub unmoved : (o : Operation) (k : ℕ) → hasFrame (o .needs) ≡ false
-      → (map frames : List ℕ) (next : ℕ) → Reached F W (s .monitor) o v s g k map frames next
+      → (map frames : List ℕ) (next : ℕ) → RangeDone F W (s .monitor) o v s g k map frames next
       → (f : ℕ) → f < F → (x : FrameChange) → own s f ≡ ownerAfter x → own (state frames map (s .monitor)) f ≡ ownerAfter x
   unmoved o k bare map frames next at f l x h = at .same bare f l ∙ h

@@ -31,12 +31,12 @@ use Rattle.granules.specs.declared.kinds.Change.the-variants.{Bare, WithFrame}
 use Rattle.granules.proofs.ChangeLaws.{with-frame, writable}
 use Rattle.history.specs.Log.{among}
 use Rattle.history.specs.Sound.{mayHold}
-use Rattle.history.proofs.Seen.{own, look, width-is, at-or-not}
+use Rattle.history.proofs.StateWords.{own, look, width-is, at-or-not}
 use Rattle.history.proofs.WordsSound.{stateBy, WordsSound}
-use Rattle.history.proofs.Tied.{Tied, tied-named, tied-apart, NamesNone}
-use Rattle.history.proofs.Moves.{pair-put, granule-put}
-use Rattle.history.proofs.Held.{heldThen, held-none, held-next, held-here, held-elsewhere}
-use Rattle.history.proofs.Taken.{step-wrote, hasFrame, without-frame, framed}
+use Rattle.history.proofs.NamingPairs.{NameOnlyEachOther, pair-named, pair-apart, NamesNone}
+use Rattle.history.proofs.WordMoves.{pair-put, granule-put}
+use Rattle.history.proofs.FramesAtGranules.{ownerWhere, owner-where-none, owner-where-next, owner-where-here, owner-where-elsewhere}
+use Rattle.history.proofs.StepWrites.{step-wrote, hasFrame, without-frame, framed}
 
 -- what a guest may make of its granules
 abbrev pub mayMake : Guest → Kind → Bool
@@ -52,11 +52,11 @@ may-word guest Shared f h = h
 may-word guest Guarded f h = h
 
 -- the words of a frame and its granule that becomes of a kind
-tied-then : (k : Kind) (v g f : ℕ) → Tied v g f (frameThen k v g) (wordWith k f)
-tied-then Vacant v g f = tied-apart v g f frame-word.Waiting map-word.Vacant tt tt
-tied-then Private v g f = tied-named v g f false
-tied-then Shared v g f = tied-named v g f true
-tied-then Guarded v g f = tied-apart v g f frame-word.Waiting map-word.Guarded tt tt
+pair-then : (k : Kind) (v g f : ℕ) → NameOnlyEachOther v g f (frameThen k v g) (wordWith k f)
+pair-then Vacant v g f = pair-apart v g f frame-word.Waiting map-word.Vacant tt tt
+pair-then Private v g f = pair-named v g f false
+pair-then Shared v g f = pair-named v g f true
+pair-then Guarded v g f = pair-apart v g f frame-word.Waiting map-word.Guarded tt tt
 
 -- a granule names one frame
 one-frame : (d : MapWord) (a b : Bool) (f k : ℕ) → d ≡ map-word.Frame a f → d ≡ map-word.Frame b k → k ≡ f
@@ -64,14 +64,14 @@ one-frame d a b f k p q = cc
 
 module _ (F W : ℕ) (m : Monitor) (o : Operation) (v : ℕ) where
   -- from s, at granule g, to a place n granules on
-  pub record Reached (s : State) (g n : ℕ) (map frames : List ℕ) (next : ℕ) : Type 0 where
+  pub record RangeDone (s : State) (g n : ℕ) (map frames : List ℕ) (next : ℕ) : Type 0 where
     pub at : next ≡ g + n
     pub sound : WordsSound F W (state frames map m)
-    pub owners : (f : ℕ) → f < F → own (state frames map m) f ≡ heldThen (among v g n) (frameThen (o .makes)) (own s f)
+    pub owners : (f : ℕ) → f < F → own (state frames map m) f ≡ ownerWhere (among v g n) (frameThen (o .makes)) (own s f)
     pub same : hasFrame (o .needs) ≡ false → (f : ℕ) → f < F → own (state frames map m) f ≡ own s f
 
-  abbrev pub ReachedAt : State → ℕ → ℕ → Place → Type 0
-  ReachedAt s g n (place map frames next) = Reached s g n map frames next
+  abbrev pub RangeDoneAt : State → ℕ → ℕ → Place → Type 0
+  RangeDoneAt s g n (place map frames next) = RangeDone s g n map frames next
 
 module _ (F W : ℕ) (m : Monitor) (o : Operation) (v : ℕ) (hv : v < 8) (may : mayMake (guestOf m v) (o .makes) ≡ true) where
   module _ (map frames : List ℕ) (g : ℕ) (i : WordsSound F W (state frames map m)) (hg : g < widthOf (length map)) where
@@ -88,71 +88,71 @@ module _ (F W : ℕ) (m : Monitor) (o : Operation) (v : ℕ) (hv : v < 8) (may :
     unfolding look
     seen = rw (width-is (i .sized))
 
-    bare-reached : (w : ℕ) → Bare w ≡ changeOf o found → ReachedAt F W m o v s g 1 (place (set map (wordIndex (length map) v g) w) frames (suc g))
+    bare-done : (w : ℕ) → Bare w ≡ changeOf o found → RangeDoneAt F W m o v s g 1 (place (set map (wordIndex (length map) v g) w) frames (suc g))
     unfolding own
-    bare-reached w e =
+    bare-done w e =
         let k = without-frame o found w e in
         let says : look W s v g ≡ mapWordBy found = sym seen ∙ granule-says frames v g (mapWordOf (wordAt map v g)) found refl (k .undamaged) in
         let none : NamesNone (look W s v g) = rw says (k .before) in
         record {
           at = omega arith;
           sound = rw (k .word, width-is (i .sized)) (granule-put i v g hv below none (wordWith (o .makes) 0) (k .after) (may-word (guestOf m v) (o .makes) 0 may) .sound);
-          owners = λ f h. sym (held-elsewhere (frameThen (o .makes)) v g (own s f) (λ b q. rw (i .says v b g f h q .2) at none));
+          owners = λ f h. sym (owner-where-elsewhere (frameThen (o .makes)) v g (own s f) (λ b q. rw (i .says v b g f h q .2) at none));
           same = λ q f h. refl;
         }
 
-    frame-reached : (f : ℕ) → WithFrame f ≡ changeOf o found
-        → ReachedAt F W m o v s g 1 (place (set map (wordIndex (length map) v g) (mapBits (wordWith (o .makes) f))) (set frames f (frameBits (frameThen (o .makes) v g))) (suc g))
+    frame-done : (f : ℕ) → WithFrame f ≡ changeOf o found
+        → RangeDoneAt F W m o v s g 1 (place (set map (wordIndex (length map) v g) (mapBits (wordWith (o .makes) f))) (set frames f (frameBits (frameThen (o .makes) v g))) (suc g))
     unfolding own
-    frame-reached f e =
+    frame-done f e =
         let k = writable o frames v g (wordAt map v g) found refl f e in
         let is-frame = with-frame o found f e in
         let says : look W s v g ≡ map-word.Frame (k .sharing) f = sym seen ∙ k .word in
         let inside : f < F = omega (arith, k .inside, i .sized .frame-words) in
-        let old : Tied v g f (own s f) (look W s v g) = rw (k .owner, says) (tied-named v g f (k .sharing)) in
+        let old : NameOnlyEachOther v g f (own s f) (look W s v g) = rw (k .owner, says) (pair-named v g f (k .sharing)) in
         let made = frameThen (o .makes) in
         let d = made v g in
         let w = wordWith (o .makes) f in
-        let put = pair-put i v g f hv below inside old d w (tied-then (o .makes) v g f) (may-word (guestOf m v) (o .makes) f may) .0 in
+        let put = pair-put i v g f hv below inside old d w (pair-then (o .makes) v g f) (may-word (guestOf m v) (o .makes) f may) .0 in
         let t = state (set frames f (frameBits d)) (set map (wordIndex (length map) v g) (mapBits w)) m in
         record {
           at = omega arith;
           sound = rw (width-is (i .sized)) (put .sound);
           owners = λ j h.
-              at-or-not (λ x. x < F → own t x ≡ heldThen (among v g 1) made (own s x)) f j
-              (λ l. put .frame ∙ sym (ap (heldThen (among v g 1) made) (k .owner) ∙ held-here made v (k .sharing) g))
+              at-or-not (λ x. x < F → own t x ≡ ownerWhere (among v g 1) made (own s x)) f j
+              (λ l. put .frame ∙ sym (ap (ownerWhere (among v g 1) made) (k .owner) ∙ owner-where-here made v (k .sharing) g))
               (λ n l.
               put .frames j n
-              ∙ sym (held-elsewhere made v g (own s j) (λ b q. n (one-frame (look W s v g) (k .sharing) b f j says (i .says v b g j l q .2)))))
+              ∙ sym (owner-where-elsewhere made v g (own s j) (λ b q. n (one-frame (look W s v g) (k .sharing) b f j says (i .says v b g j l q .2)))))
               h;
           same = λ q. never (sym q ∙ framed o (is-frame .0) f (rw (← (is-frame .1)) e));
         }
 
-  one-reached : (map frames : List ℕ) (g : ℕ) → WordsSound F W (state frames map m) → (t : Place) → tableStep o v (place map frames g) ≡ took t
-      → ReachedAt F W m o v (state frames map m) g 1 t
-  one-reached map frames g i t e =
-      step-wrote o v map frames g (ReachedAt F W m o v (state frames map m) g 1) (λ w h q. bare-reached map frames g i h w q)
-      (λ f h q. frame-reached map frames g i h f q) t e
+  one-done : (map frames : List ℕ) (g : ℕ) → WordsSound F W (state frames map m) → (t : Place) → tableStep o v (place map frames g) ≡ took t
+      → RangeDoneAt F W m o v (state frames map m) g 1 t
+  one-done map frames g i t e =
+      step-wrote o v map frames g (RangeDoneAt F W m o v (state frames map m) g 1) (λ w h q. bare-done map frames g i h w q)
+      (λ f h q. frame-done map frames g i h f q) t e
 
   module _ (s : State) (g : ℕ) where
-    further : (n : ℕ) (map frames : List ℕ) (next : ℕ) → Reached F W m o v s g n map frames next → (t : Place)
-        → ReachedAt F W m o v (state frames map m) next 1 t → ReachedAt F W m o v s g (suc n) t
+    further : (n : ℕ) (map frames : List ℕ) (next : ℕ) → RangeDone F W m o v s g n map frames next → (t : Place)
+        → RangeDoneAt F W m o v (state frames map m) next 1 t → RangeDoneAt F W m o v s g (suc n) t
     further n map frames next r (place map′ frames′ next′) q = record {
       at = omega (arith, r .at, q .at);
       sound = q .sound;
       owners = λ f h.
           q .owners f h
-          ∙ rw (r .owners f h, r .at) (held-next (o .makes) v g n (own s f));
+          ∙ rw (r .owners f h, r .at) (owner-where-next (o .makes) v g n (own s f));
       same = λ e f h. q .same e f h ∙ r .same e f h;
     }
 
-    onward : (n : ℕ) (p t : Place) → ReachedAt F W m o v s g n p → tableStep o v p ≡ took t → ReachedAt F W m o v s g (suc n) t
-    onward n (place map frames next) t r e = further n map frames next r t (one-reached map frames next (r .sound) t e)
+    onward : (n : ℕ) (p t : Place) → RangeDoneAt F W m o v s g n p → tableStep o v p ≡ took t → RangeDoneAt F W m o v s g (suc n) t
+    onward n (place map frames next) t r e = further n map frames next r t (one-done map frames next (r .sound) t e)
 
   -- n steps at the most
-  pub range-reached : (map frames : List ℕ) (g n : ℕ) → WordsSound F W (state frames map m)
-      → Holds (ReachedAt F W m o v (state frames map m) g) 0 (run (tableStep o v) n (place map frames g))
-  range-reached map frames g n i =
+  pub range-done : (map frames : List ℕ) (g n : ℕ) → WordsSound F W (state frames map m)
+      → Holds (RangeDoneAt F W m o v (state frames map m) g) 0 (run (tableStep o v) n (place map frames g))
+  range-done map frames g n i =
       let s = state frames map m in
-      kept (ReachedAt F W m o v s g) (tableStep o v) (onward s g) n 0 (place map frames g)
-      (record { at = omega arith; sound = i; owners = λ f h. sym (held-none v g (frameThen (o .makes)) (own s f)); same = λ e f h. refl })
+      kept (RangeDoneAt F W m o v s g) (tableStep o v) (onward s g) n 0 (place map frames g)
+      (record { at = omega arith; sound = i; owners = λ f h. sym (owner-where-none v g (frameThen (o .makes)) (own s f)); same = λ e f h. refl })

@@ -10,9 +10,9 @@ use Rattle.commands.specs.State.{State, state}
 use Rattle.records.specs.declared.guest.Guest.{Guest}
 use Rattle.records.proofs.MonitorLaws.{guest-put, guest-other, guests-kept}
 use Rattle.history.specs.Sound.{SoundRecord, mayHold}
-use Rattle.history.proofs.Seen.{own, look, Sized, at-or-not}
+use Rattle.history.proofs.StateWords.{own, look, Sized, at-or-not}
 use Rattle.history.proofs.WordsSound.{stateBy, WordsSound, changed-sound}
-use Rattle.history.proofs.Tied.{here}
+use Rattle.history.proofs.NamingPairs.{here}
 
 -- the records with one put in
 pub guests-then : (P : ℕ → Guest → Type 0) {F W : ℕ} {s : State} → Sized F W s → (v : ℕ) (r : Guest) → P v r → ((u : ℕ) → u < 8 → u ≢ v → P u (guestOf (s .monitor) u))

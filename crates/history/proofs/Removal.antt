@@ -25,12 +25,12 @@ use Rattle.commands.specs.State.{State, state}
 use Rattle.records.proofs.MonitorLaws.{guest-other, guests-kept}
 use Rattle.rows.specs.WholeRow.{vacantRow, framesFreed}
 use Rattle.history.specs.Sound.{SoundRecord}
-use Rattle.history.proofs.Seen.{own, look, width-is}
+use Rattle.history.proofs.StateWords.{own, look, width-is}
 use Rattle.history.proofs.WordsSound.{WordsSound, changed-sound}
 use Rattle.history.proofs.RecordMoves.{guests-then}
 use Rattle.history.proofs.RecordLaws.{zero-sound}
 use Rattle.history.proofs.FreedRow.{put, put-length, put-before, put-within, put-after, freed-length, freed-named, freed-other}
-use Rattle.history.proofs.Held.{heldThen}
+use Rattle.history.proofs.FramesAtGranules.{ownerWhere}
 
 -- whether slot v owns a frame
 abbrev ownedBy : ℕ → FrameWord → Bool
@@ -52,7 +52,7 @@ owner-not v d h b g e =
 
 -- the word of a frame when the guest in slot v is gone
 abbrev pub ownerGone : ℕ → FrameWord → FrameWord
-ownerGone v d = heldThen (λ u h. eqb u v) (λ u h. frame-word.Waiting) d
+ownerGone v d = ownerWhere (λ u h. eqb u v) (λ u h. frame-word.Waiting) d
 
 owner-held : (v : ℕ) (d : FrameWord) → cond (ownedBy v d) frame-word.Waiting d ≡ ownerGone v d
 owner-held v frame-word.Host = refl

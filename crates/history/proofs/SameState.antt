@@ -20,7 +20,7 @@ use Rattle.commands.specs.State.{State, state}
 use Rattle.records.specs.declared.guest.Guest.{Guest}
 use Rattle.records.specs.declared.monitor.Monitor.{Monitor}
 use Rattle.records.proofs.MonitorLaws.{put-again}
-use Rattle.history.proofs.Seen.{own, look}
+use Rattle.history.proofs.StateWords.{own, look}
 use Rattle.history.proofs.WordsSound.{WordsSound}
 
 -- every word of n rows is that of a granule of a slot

@@ -24,14 +24,14 @@ use Rattle.rows.specs.WholeRow.{rowVacant, undamagedFrom, rowUndamaged}
 use Rattle.calls.specs.Step.{step}
 use Rattle.calls.specs.declared.call.Call.the-variants.{Create, Remove}
 use Rattle.history.specs.Log as log
-use Rattle.history.proofs.Seen.{look, lengths-hold, width-is}
+use Rattle.history.proofs.StateWords.{look, lengths-hold, width-is}
 use Rattle.history.proofs.WordsSound.{WordsSound}
 use Rattle.history.proofs.SoundLaws.{pair-seen}
 use Rattle.history.proofs.Removal.{ownerGone, says-row, owners-gone, gone-sound}
-use Rattle.history.proofs.Held.{owner-changed}
-use Rattle.history.proofs.Kept.{Kept, test, sure, call-kept}
+use Rattle.history.proofs.FramesAtGranules.{owner-changed}
+use Rattle.history.proofs.Preserved.{Preserved, test, sure, call-kept}
 use Rattle.history.proofs.StillCalls.{dead-row, calm-kept}
-use Rattle.history.proofs.Looks.{granule-undamaged}
+use Rattle.history.proofs.PassedTests.{granule-undamaged}
 
 -- a free slot is not live
 free-dead : (m : Monitor) (n v : ℕ) → freeFrom m v n < v + n → guestOf m (freeFrom m v n) .live ≡ false
@@ -82,7 +82,7 @@ module _ {F W : ℕ} {s : State} (i : WordsSound F W s) where
       let p = row-seen v g h l in
       rw (zero-add, p .1, ← (pair-seen (i .sized) v g h (p .0))) (granule-undamaged i v g h (p .0)))
 
-  pub keep-create : Kept F W s Create (step Create s)
+  pub keep-create : Preserved F W s Create (step Create s)
   unfolding numbersOf
   keep-create =
       let v = freeSlot (s .monitor) in
@@ -91,7 +91,7 @@ module _ {F W : ℕ} {s : State} (i : WordsSound F W s) where
       (test (sure _ (lengths-hold (i .sized))) λ a. test (sure _ (free-row v dead)) λ b. test (λ q. (refl, refl)) λ c. tt)
       (λ p. let h = ltb-true v 8 (p .1 .1 .0) in (h, dead h))
 
-  pub keep-remove : (v : ℕ) → Kept F W s (Remove v) (step (Remove v) s)
+  pub keep-remove : (v : ℕ) → Preserved F W s (Remove v) (step (Remove v) s)
   unfolding numbersOf
   keep-remove v =
       let g = guestOf (s .monitor) v in

@@ -23,7 +23,7 @@ use Rattle.records.specs.Monitor.{guestOf}
 use Rattle.commands.specs.State.{State}
 use Rattle.records.specs.declared.guest.Guest.{Guest}
 use Rattle.history.specs.Sound.{mayHold, Sound}
-use Rattle.history.proofs.Seen.{own, look, Sized, lengths-hold, width-is}
+use Rattle.history.proofs.StateWords.{own, look, Sized, lengths-hold, width-is}
 use Rattle.history.proofs.WordsSound.{stateBy, Says, SaysBack, WordsSound}
 
 module _ {F W : ℕ} {s : State} (z : Sized F W s) where

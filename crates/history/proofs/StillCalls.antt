@@ -19,11 +19,11 @@ use Rattle.calls.specs.Step.{commandOf, step}
 use Rattle.calls.specs.declared.call.Call.{Call}
 use Rattle.history.specs.Sound.{mayHold}
 use Rattle.history.specs.Log.{FrameChange, afterCall}
-use Rattle.history.proofs.Seen.{own, look}
+use Rattle.history.proofs.StateWords.{own, look}
 use Rattle.history.proofs.WordsSound.{stateBy, WordsSound}
 use Rattle.history.proofs.RecordMoves.{recorded-sound}
 use Rattle.history.proofs.RecordLaws.{new-sound, run-sound, run-holds, enroll-sound, enroll-holds, bitmap-flags, flags-hold, bitmap-sound}
-use Rattle.history.proofs.Kept.{usual, Kept, Refusals, slotIn, seenIn, call-kept}
+use Rattle.history.proofs.Preserved.{usual, Preserved, Refusals, slotIn, seenIn, call-kept}
 
 -- a record that is not a guest's lets a granule hold nothing
 dead-vacant : (d : MapWord) → mayHold zeroGuest (stateBy d) ≡ true → d ≡ map-word.Vacant
@@ -74,7 +74,7 @@ module _ {F W : ℕ} {s : State} (i : WordsSound F W s) where
 
   -- such a call changes no frame; so it is in order where the log says of it that it changes none
   pub still-kept : (c : Call) (v : ℕ) (d : Effect) → Mild s v d → ((f : ℕ) (x : FrameChange) → afterCall f c (numbersOf (effected v s d .answer)) x ≡ x)
-      → Kept F W s c (effected v s d)
+      → Preserved F W s c (effected v s d)
   unfolding own
   still-kept c v (answerOnly a) m quiet = record { sound = i; logged = λ f l x e. rw (quiet f x) e; usual-verdict = m }
   still-kept c v (changeRecord d y) m quiet = record { sound = change-sound v d m; logged = λ f l x e. rw (quiet f x) e; usual-verdict = success-usual y }
@@ -82,5 +82,5 @@ module _ {F W : ℕ} {s : State} (i : WordsSound F W s) where
 
   -- a call that the log says nothing of, by its refusals and by what its tests find
   pub calm-kept : (c : Call) → ((f : ℕ) (n : Numbers) (x : FrameChange) → afterCall f c n x ≡ x) → Refusals (testsOf (commandOf c) (seenIn s c))
-      → (Passes (testsOf (commandOf c) (seenIn s c)) → Mild s (slotIn s c) (effectOf (commandOf c) (seenIn s c))) → Kept F W s c (step c s)
+      → (Passes (testsOf (commandOf c) (seenIn s c)) → Mild s (slotIn s c) (effectOf (commandOf c) (seenIn s c))) → Preserved F W s c (step c s)
   calm-kept c quiet r m = call-kept i c r (λ p. still-kept c (slotIn s c) (effectOf (commandOf c) (seenIn s c)) (m p) (λ f x. quiet f _ x))

@@ -24,10 +24,10 @@ use Rattle.granules.specs.declared.kinds.Kind.the-variants.{Vacant, Private, Sh
 use Rattle.granules.specs.declared.kinds.Operation.{Operation}
 use Rattle.granules.specs.declared.kinds.Change.{Change}
 use Rattle.granules.specs.declared.kinds.Change.the-variants.{Damaged, Refused, Bare, WithFrame}
-use Rattle.history.proofs.Seen.{look, width-is}
+use Rattle.history.proofs.StateWords.{look, width-is}
 use Rattle.history.proofs.WordsSound.{WordsSound}
 use Rattle.history.proofs.SoundLaws.{pair-seen}
-use Rattle.history.proofs.Looks.{granule-undamaged, below-width}
+use Rattle.history.proofs.PassedTests.{granule-undamaged, below-width}
 
 -- a step refuses for damage only where its granule is damaged
 bare-undamaged : (x : Bool) (m : Kind) → cond x (bare m) Refused ≢ Damaged

@@ -1,4 +1,4 @@
--- Every sound state without a live guest is got: each frame that waits was donated to a first guest, which was removed.
+-- Every sound state without a live guest is reached: each frame that waits was donated to a first guest, which was removed.
 use mathlib.Core.Path.{_≡_, refl, sym, ap, _∙_}
 use mathlib.Core.Logic.{_≢_}
 use mathlib.Core.Bool.{Bool, true, false}
@@ -22,19 +22,19 @@ use Rattle.records.proofs.MonitorLaws.{guest-put, guest-fresh}
 use Rattle.host_frames.specs.Calls.{frameWaiting}
 use Rattle.host_removal.specs.Calls.{removed}
 use Rattle.calls.specs.declared.call.Call.the-variants.{Create, Donate, Remove}
-use Rattle.history.proofs.Seen.{own, look, width-is, at-or-not, at-most}
+use Rattle.history.proofs.StateWords.{own, look, width-is, at-or-not, at-most}
 use Rattle.history.proofs.WordsSound.{WordsSound}
 use Rattle.history.proofs.SoundLaws.{frameBy}
-use Rattle.history.proofs.Tied.{tied-named, tied-apart, FrameFree}
-use Rattle.history.proofs.Moves.{FramePut, GranulePut, pair-put, frame-put}
+use Rattle.history.proofs.NamingPairs.{pair-named, pair-apart, FrameFree}
+use Rattle.history.proofs.WordMoves.{FramePut, GranulePut, pair-put, frame-put}
 use Rattle.history.proofs.RecordMoves.{recorded-sound}
 use Rattle.history.proofs.RecordLaws.{new-sound}
 use Rattle.history.proofs.Removal.{ownerGone}
-use Rattle.history.proofs.Looks.{waiting-word}
+use Rattle.history.proofs.PassedTests.{waiting-word}
 use Rattle.history.proofs.CallsKept.{fresh-own, fresh-look, fresh-sound}
 use Rattle.history.proofs.SameState.{guest-back, same-state}
-use Rattle.history.proofs.Does.{does-create, does-donate, does-remove}
-use Rattle.history.proofs.Got.{Got, got-next, Undone, undone-put, frames-got}
+use Rattle.history.proofs.CallsDone.{create-leaves, donate-leaves, remove-leaves}
+use Rattle.history.proofs.Reached.{Reached, reached-next, Undone, undone-put, frames-reached}
 use Rattle.history.proofs.UndoRemovals.{row-vacant, unowned, owners-stay, removal-leaves}
 
 abbrev pub AllDead : State → Type 0
@@ -101,8 +101,8 @@ module _ (F W : ℕ) where
 
     given-put : FramePut F W joined given n (frame-word.Owned 0 false 0) × GranulePut F W joined given 0 0 (map-word.Frame false n)
     given-put =
-        pair-put joined-sound 0 0 n (omega arith) wide h (rw (joined-host, joined-vacant) (tied-apart 0 0 n frame-word.Host map-word.Vacant tt tt))
-        (frame-word.Owned 0 false 0) (map-word.Frame false n) (tied-named 0 0 n false) (rw first)
+        pair-put joined-sound 0 0 n (omega arith) wide h (rw (joined-host, joined-vacant) (pair-apart 0 0 n frame-word.Host map-word.Vacant tt tt))
+        (frame-word.Owned 0 false 0) (map-word.Frame false n) (pair-named 0 0 n false) (rw first)
 
     given-other : (f : ℕ) → f ≢ n → own given f ≡ own s f
     unfolding own
@@ -126,20 +126,20 @@ module _ (F W : ℕ) where
         look-other
         (guest-back (s .monitor) 0 newGuest zeroGuest (omega arith) first-dead)
 
-    clearing-undone : Got F W unclaimed → Got F W s
-    clearing-undone got =
+    clearing-undone : Reached F W unclaimed → Reached F W s
+    clearing-undone reached =
         let j = unclaimed-put .sound in
-        let a = got-next got Create tt (does-create j 0 (first-free unclaimed dead) (omega arith) (ap (λ (x : Guest). x .live) (dead 0 (omega arith)))) in
-        let b = got-next {t = given} a (Donate 0 n 0) (omega arith, (omega (arith, at-most (i .sized)), (omega arith, tt))) (does-donate joined-sound 0 n 0 (ap (λ (x : Guest). x .live) first) h wide joined-host joined-vacant ∙ rw (width-is (joined-sound .sized))) in
-        got-next b (Remove 0) (omega arith, tt) (does-remove (given-put .0 .sound) 0 (ap (λ (x : Guest). x .live) first) ∙ gone-state)
+        let a = reached-next reached Create tt (create-leaves j 0 (first-free unclaimed dead) (omega arith) (ap (λ (x : Guest). x .live) (dead 0 (omega arith)))) in
+        let b = reached-next {t = given} a (Donate 0 n 0) (omega arith, (omega (arith, at-most (i .sized)), (omega arith, tt))) (donate-leaves joined-sound 0 n 0 (ap (λ (x : Guest). x .live) first) h wide joined-host joined-vacant ∙ rw (width-is (joined-sound .sized))) in
+        reached-next b (Remove 0) (omega arith, tt) (remove-leaves (given-put .0 .sound) 0 (ap (λ (x : Guest). x .live) first) ∙ gone-state)
 
   module _ (bounds : lengthsHold F (8 * W) ≡ true) where
     wide : 0 < W
     wide = omega (arith, width-between (8 * W) (both-true (framesHold F) (mapHolds (8 * W)) bounds .1))
 
     -- no frame waits: the tables are fresh
-    fresh-got : (s : State) → WordsSound F W s → AllDead s → ((f : ℕ) → f < F → isWaiting (own s f) ≡ false) → Got F W s
-    fresh-got s i dead none = record {
+    fresh-reached : (s : State) → WordsSound F W s → AllDead s → ((f : ℕ) → f < F → isWaiting (own s f) ≡ false) → Reached F W s
+    fresh-reached s i dead none = record {
       calls = [];
       fit = tt;
       leaves =
@@ -154,5 +154,5 @@ module _ (F W : ℕ) where
         let e = waiting-word (own s n) w in
         undone-put (unclaimed-put n s i dead h wide e) dead refl (clearing-undone n s i dead h wide e)
 
-    pub dead-got : (s : State) → WordsSound F W s → AllDead s → Got F W s
-    dead-got s i dead = frames-got F W AllDead isWaiting fresh-got undo s i dead
+    pub dead-reached : (s : State) → WordsSound F W s → AllDead s → Reached F W s
+    dead-reached s i dead = frames-reached F W AllDead isWaiting fresh-reached undo s i dead

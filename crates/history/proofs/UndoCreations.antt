@@ -1,4 +1,4 @@
--- Every sound state whose guests are all new and have nothing is got: they were created in turn.
+-- Every sound state whose guests are all new and have nothing is reached: they were created in turn.
 use mathlib.Core.Path.{_≡_, ap, _∙_}
 use mathlib.Core.Bool.{true, false, cond}
 use Prim.Native.Nat.{ℕ, zero, suc, _+_, _*_, _<_, _≤_}
@@ -12,14 +12,14 @@ use Rattle.records.specs.declared.guest.Guest.{Guest}
 use Rattle.records.specs.declared.monitor.Monitor.{Monitor}
 use Rattle.records.proofs.MonitorLaws.{guest-put, guest-other}
 use Rattle.calls.specs.declared.call.Call.the-variants.{Create}
-use Rattle.history.proofs.Seen.{look, at-or-not}
+use Rattle.history.proofs.StateWords.{look, at-or-not}
 use Rattle.history.proofs.WordsSound.{WordsSound}
 use Rattle.history.proofs.RecordMoves.{recorded-sound}
 use Rattle.history.proofs.RecordLaws.{zero-sound}
 use Rattle.history.proofs.SameState.{guest-back}
-use Rattle.history.proofs.Does.{does-create}
-use Rattle.history.proofs.Got.{Got, got-next}
-use Rattle.history.proofs.UndoClearings.{dead-got}
+use Rattle.history.proofs.CallsDone.{create-leaves}
+use Rattle.history.proofs.Reached.{Reached, reached-next}
+use Rattle.history.proofs.UndoClearings.{dead-reached}
 
 -- the lowest free slot is n, if those below are live
 lowest : (m : Monitor) (n : ℕ) → guestOf m n .live ≡ false → (k v : ℕ) → v ≤ n → n < v + k → ((u : ℕ) → v ≤ u → u < n → guestOf m u .live ≡ true) → freeFrom m v k ≡ n
@@ -39,10 +39,10 @@ module _ (F W : ℕ) (bounds : lengthsHold F (8 * W) ≡ true) where
     none : (v : ℕ) → v < 8 → n ≤ v → guestOf (s .monitor) v ≡ zeroGuest
     vacant : (v g : ℕ) → v < 8 → g < W → look W s v g ≡ map-word.Vacant
 
-  creations-got : (n : ℕ) → n ≤ 8 → (s : State) → WordsSound F W s → NewUpTo n s → Got F W s
+  creations-reached : (n : ℕ) → n ≤ 8 → (s : State) → WordsSound F W s → NewUpTo n s → Reached F W s
   unfolding look
-  creations-got zero l s i k = dead-got F W bounds s i (λ v h. k .none v h (omega arith))
-  creations-got (suc n) l s i k =
+  creations-reached zero l s i k = dead-reached F W bounds s i (λ v h. k .none v h (omega arith))
+  creations-reached (suc n) l s i k =
       let m = s .monitor in
       let before = state (s .frames) (s .map) (withGuest m n zeroGuest) in
       let slot : n < 8 = omega arith in
@@ -50,7 +50,7 @@ module _ (F W : ℕ) (bounds : lengthsHold F (8 * W) ≡ true) where
       let j : WordsSound F W before = recorded-sound i n zeroGuest zero-sound (λ g h q. rw (k .vacant n g slot h)) in
       let here : guestOf (before .monitor) n ≡ zeroGuest = guest-put m n zeroGuest slot (omega (arith, i .sized .guests)) in
       let there : (v : ℕ) → (v ≡ n → ⊥) → guestOf (before .monitor) v ≡ guestOf m v = λ v q. guest-other m n v zeroGuest q in
-      let got = creations-got n (omega arith) before j (record {
+      let reached = creations-reached n (omega arith) before j (record {
         new = λ v h. there v (λ q. omega arith) ∙ k .new v (omega arith);
         none = λ v h a. at-or-not (λ u. u < 8 → n ≤ u → guestOf (before .monitor) u ≡ zeroGuest) n v (λ b c. here) (λ q b c. there v q ∙ k .none v b (omega arith)) h a;
         vacant = k .vacant;
@@ -58,8 +58,8 @@ module _ (F W : ℕ) (bounds : lengthsHold F (8 * W) ≡ true) where
       let dead : guestOf (before .monitor) n .live ≡ false = ap (λ (x : Guest). x .live) here in
       let free : freeSlot (before .monitor) ≡ n = lowest (before .monitor) n dead 8 0 (omega arith) (omega arith) (λ u a b.
       ap (λ (x : Guest). x .live) (there u (λ q. omega arith) ∙ k .new u (omega arith))) in
-      got-next got Create tt (does-create j n free slot dead ∙ rw (guest-back m n zeroGuest newGuest slot is-new))
+      reached-next reached Create tt (create-leaves j n free slot dead ∙ rw (guest-back m n zeroGuest newGuest slot is-new))
 
-  pub new-got : (s : State) → WordsSound F W s → ((v : ℕ) → v < 8 → guestOf (s .monitor) v ≡ newGuest)
-      → ((v g : ℕ) → v < 8 → g < W → look W s v g ≡ map-word.Vacant) → Got F W s
-  new-got s i new vacant = creations-got 8 (omega arith) s i (record { new = new; none = λ v h l. absurd (omega arith); vacant = vacant })
+  pub new-reached : (s : State) → WordsSound F W s → ((v : ℕ) → v < 8 → guestOf (s .monitor) v ≡ newGuest)
+      → ((v g : ℕ) → v < 8 → g < W → look W s v g ≡ map-word.Vacant) → Reached F W s
+  new-reached s i new vacant = creations-reached 8 (omega arith) s i (record { new = new; none = λ v h l. absurd (omega arith); vacant = vacant })

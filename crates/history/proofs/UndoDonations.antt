@@ -1,4 +1,4 @@
--- Every sound state whose guests are all new is got: their frames were donated.
+-- Every sound state whose guests are all new is reached: their frames were donated.
 use mathlib.Core.Path.{_≡_, refl, sym, ap, _∙_}
 use mathlib.Core.Logic.{_≢_}
 use mathlib.Core.Bool.{Bool, true, false}
@@ -18,14 +18,14 @@ use Rattle.commands.specs.State.{State, state}
 use Rattle.records.specs.declared.guest.Guest.{Guest}
 use Rattle.calls.specs.declared.call.Call.the-variants.{Donate}
 use Rattle.history.specs.Sound.{mayHold}
-use Rattle.history.proofs.Seen.{own, look, width-is, at-most}
+use Rattle.history.proofs.StateWords.{own, look, width-is, at-most}
 use Rattle.history.proofs.WordsSound.{stateBy, Says, WordsSound}
-use Rattle.history.proofs.Tied.{tied-named, tied-apart}
-use Rattle.history.proofs.Moves.{FramePut, GranulePut, pair-put}
+use Rattle.history.proofs.NamingPairs.{pair-named, pair-apart}
+use Rattle.history.proofs.WordMoves.{FramePut, GranulePut, pair-put}
 use Rattle.history.proofs.SameState.{frame-back, map-back}
-use Rattle.history.proofs.Does.{does-donate}
-use Rattle.history.proofs.Got.{Got, got-next, Undone, undone-put, frames-got}
-use Rattle.history.proofs.UndoCreations.{new-got}
+use Rattle.history.proofs.CallsDone.{donate-leaves}
+use Rattle.history.proofs.Reached.{Reached, reached-next, Undone, undone-put, frames-reached}
+use Rattle.history.proofs.UndoCreations.{new-reached}
 
 -- what a new guest can hold is a private frame
 new-holds : (d : MapWord) → mayHold newGuest (stateBy d) ≡ true → (f : ℕ) → d ≢ map-word.Frame true f
@@ -47,9 +47,9 @@ module _ (F W : ℕ) (bounds : lengthsHold F (8 * W) ≡ true) where
   abbrev AllNew : State → Type 0
   AllNew s = (v : ℕ) → v < 8 → guestOf (s .monitor) v ≡ newGuest
 
-  none-owned-got : (s : State) → WordsSound F W s → AllNew s → ((f : ℕ) → f < F → isOwned (own s f) ≡ false) → Got F W s
-  none-owned-got s i new none =
-      new-got F W bounds s i new (λ v g h l.
+  none-owned-reached : (s : State) → WordsSound F W s → AllNew s → ((f : ℕ) → f < F → isOwned (own s f) ≡ false) → Reached F W s
+  none-owned-reached s i new none =
+      new-reached F W bounds s i new (λ v g h l.
       new-vacant (look W s v g) (rw (new v h) at (i .holds v g h l)) (λ b f e.
       let p = i .says-back v b g f h l e in
       let y : isOwned (own s f) ≡ true = rw (p .1) in
@@ -67,14 +67,14 @@ module _ (F W : ℕ) (bounds : lengthsHold F (8 * W) ≡ true) where
 
     undonated-put : FramePut F W s undonated n frame-word.Host × GranulePut F W s undonated v g map-word.Vacant
     undonated-put =
-        pair-put i v g n (said .0) (said .1) h (rw (e, said .2) (tied-named v g n false)) frame-word.Host map-word.Vacant
-        (tied-apart v g n frame-word.Host map-word.Vacant tt tt) refl
+        pair-put i v g n (said .0) (said .1) h (rw (e, said .2) (pair-named v g n false)) frame-word.Host map-word.Vacant
+        (pair-apart v g n frame-word.Host map-word.Vacant tt tt) refl
 
-    donation-undone : Got F W undonated → Got F W s
-    donation-undone got =
+    donation-undone : Reached F W undonated → Reached F W s
+    donation-undone reached =
         let put = undonated-put in
-        got-next got (Donate v n g) (omega (arith, said .0), (omega (arith, at-most (i .sized)), (omega (arith, said .1, at-most (i .sized)), tt)))
-        (does-donate (put .0 .sound) v n g live h (said .1) (put .0 .frame) (put .1 .granule)
+        reached-next reached (Donate v n g) (omega (arith, said .0), (omega (arith, at-most (i .sized)), (omega (arith, said .1, at-most (i .sized)), tt)))
+        (donate-leaves (put .0 .sound) v n g live h (said .1) (put .0 .frame) (put .1 .granule)
         ∙ rw
         (width-is (put .0 .sound .sized), frame-back i n (frameBits frame-word.Host) (frame-word.Owned v false g) h e, map-back i v g (mapBits map-word.Vacant) (map-word.Frame false n) (said .0) (said .1) (said .2)))
 
@@ -88,5 +88,5 @@ module _ (F W : ℕ) (bounds : lengthsHold F (8 * W) ≡ true) where
       undone-put (undonated-put n s i new h v g e .0) new refl (donation-undone n s i new h v g e)
   undo s i new n h frame-word.Damaged e w = never w
 
-  pub all-new-got : (s : State) → WordsSound F W s → AllNew s → Got F W s
-  all-new-got s i new = frames-got F W AllNew isOwned none-owned-got (λ t j c n h w. undo t j c n h (own t n) refl w) s i new
+  pub all-new-reached : (s : State) → WordsSound F W s → AllNew s → Reached F W s
+  all-new-reached s i new = frames-reached F W AllNew isOwned none-owned-reached (λ t j c n h w. undo t j c n h (own t n) refl w) s i new

@@ -1,4 +1,4 @@
--- Every sound state without shared granules is got: its guarded ones were guarded.
+-- Every sound state without shared granules is reached: its guarded ones were guarded.
 use mathlib.Core.Path.{_≡_, refl, sym, ap, _∙_}
 use mathlib.Core.Logic.{_≢_}
 use mathlib.Core.Bool.{Bool, true, false}
@@ -18,13 +18,13 @@ use Rattle.commands.specs.State.{State, state}
 use Rattle.records.specs.declared.guest.Guest.{Guest}
 use Rattle.calls.specs.declared.call.Call.the-variants.{Hypercall}
 use Rattle.history.specs.Sound.{SoundRecord, mayHold}
-use Rattle.history.proofs.Seen.{own, look, index-same, index-below, at-most}
+use Rattle.history.proofs.StateWords.{own, look, index-same, index-below, at-most}
 use Rattle.history.proofs.WordsSound.{stateBy, WordsSound}
-use Rattle.history.proofs.Moves.{GranulePut, granule-put}
+use Rattle.history.proofs.WordMoves.{GranulePut, granule-put}
 use Rattle.history.proofs.SameState.{Placed, placed, map-back}
-use Rattle.history.proofs.Does.{asking, asking-fits, does-guard}
-use Rattle.history.proofs.Got.{Got, got-next}
-use Rattle.history.proofs.UndoRecords.{plain-got}
+use Rattle.history.proofs.CallsDone.{asking, asking-fits, guard-leaves}
+use Rattle.history.proofs.Reached.{Reached, reached-next}
+use Rattle.history.proofs.UndoRecords.{plain-reached}
 
 -- a guest that has run is live
 pub run-live : (g : Guest) → SoundRecord g → g .run ≡ true → g .live ≡ true
@@ -80,18 +80,18 @@ module _ (F W : ℕ) (bounds : lengthsHold F (8 * W) ≡ true) where
     unguarded-put : GranulePut F W s unguarded v g map-word.Vacant
     unguarded-put = granule-put i v g slot below (rw e tt) map-word.Vacant tt refl
 
-    guard-undone : Got F W unguarded → Got F W s
-    guard-undone got =
-        got-next got (Hypercall v (asking 0xC6000007 g)) (asking-fits v 0xC6000007 g slot (omega arith) (omega (arith, at-most (i .sized))))
-        (does-guard (unguarded-put .sound) v (run-live (guestOf (s .monitor) v) (i .records v slot) has-run) has-run g below enrolled (unguarded-put .granule)
+    guard-undone : Reached F W unguarded → Reached F W s
+    guard-undone reached =
+        reached-next reached (Hypercall v (asking 0xC6000007 g)) (asking-fits v 0xC6000007 g slot (omega arith) (omega (arith, at-most (i .sized))))
+        (guard-leaves (unguarded-put .sound) v (run-live (guestOf (s .monitor) v) (i .records v slot) has-run) has-run g below enrolled (unguarded-put .granule)
         ∙ rw (map-back i v g (mapBits map-word.Vacant) map-word.Guarded slot below e))
 
-  guards-got : (n : ℕ) → n ≤ 8 * W → (s : State) → WordsSound F W s → NoneShared s → NoneGuardedFrom n s → Got F W s
+  guards-reached : (n : ℕ) → n ≤ 8 * W → (s : State) → WordsSound F W s → NoneShared s → NoneGuardedFrom n s → Reached F W s
   unfolding own
-  guards-got zero l s i none free =
-      plain-got F W bounds s i (λ v g a b.
+  guards-reached zero l s i none free =
+      plain-reached F W bounds s i (λ v g a b.
       plain-word (guestOf (s .monitor) v) (look W s v g) (i .holds v g a b) (λ f. unshared-word s i none v g f a b) (free v g a b (omega arith)))
-  guards-got (suc n) l s i none free = by (guarded? (look W s v g)) (λ t j a b. guards-got n (omega arith) t j a b)
+  guards-reached (suc n) l s i none free = by (guarded? (look W s v g)) (λ t j a b. guards-reached n (omega arith) t j a b)
     where
       at : Placed 8 W n
       at = placed 8 W n (omega arith)
@@ -112,9 +112,9 @@ module _ (F W : ℕ) (bounds : lengthsHold F (8 * W) ≡ true) where
           on (no q) = there u h a b (λ p. q (rw (p .0, p .1) (sym (at .index)))) (omega arith)
 
       Next : Type 0
-      Next = (t : State) → WordsSound F W t → NoneShared t → NoneGuardedFrom n t → Got F W t
+      Next = (t : State) → WordsSound F W t → NoneShared t → NoneGuardedFrom n t → Reached F W t
 
-      by : Dec (look W s v g ≡ map-word.Guarded) → Next → Got F W s
+      by : Dec (look W s v g ≡ map-word.Guarded) → Next → Reached F W s
       by (yes e) next =
           let put = unguarded-put s i v g (at .few) (at .below) e in
           guard-undone s i v g (at .few) (at .below) e
@@ -125,5 +125,5 @@ module _ (F W : ℕ) (bounds : lengthsHold F (8 * W) ≡ true) where
           (λ u h a b c d q. free u h a b d (sym (put .granules u h b c) ∙ q))))
       by (no e) next = next s i none (fewer s e (λ u h a b c d. free u h a b d))
 
-  pub unshared-got : (s : State) → WordsSound F W s → NoneShared s → Got F W s
-  unshared-got s i none = guards-got (8 * W) (omega arith) s i none (λ v g a b c. absurd (omega (arith, index-below W v g a b)))
+  pub unshared-reached : (s : State) → WordsSound F W s → NoneShared s → Reached F W s
+  unshared-reached s i none = guards-reached (8 * W) (omega arith) s i none (λ v g a b c. absurd (omega (arith, index-below W v g a b)))

@@ -14,7 +14,7 @@ use Rattle.commands.specs.Command.{viewOf, effected}
 use Rattle.records.specs.declared.guest.Guest.{Guest}
 use Rattle.records.specs.declared.monitor.Monitor.{Monitor}
 use Rattle.host_removal.specs.Calls.{removed}
-use Rattle.history.proofs.Seen.{own, look, at-or-not}
+use Rattle.history.proofs.StateWords.{own, look, at-or-not}
 use Rattle.history.proofs.WordsSound.{WordsSound}
 use Rattle.history.proofs.Removal.{ownerGone, owners-gone, look-gone, look-there, gone-sound}
 use Rattle.history.proofs.StillCalls.{dead-row}

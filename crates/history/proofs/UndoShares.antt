@@ -1,4 +1,4 @@
--- Every sound state is got: its shared granules were shared.
+-- Every sound state is reached: its shared granules were shared.
 use mathlib.Core.Path.{_≡_, refl, _∙_}
 use mathlib.Core.Bool.{true, false}
 use Prim.Native.Nat.{ℕ, _+_, _*_, _<_}
@@ -14,14 +14,14 @@ use Rattle.tables.specs.Length.{lengthsHold}
 use Rattle.records.specs.Monitor.{guestOf}
 use Rattle.commands.specs.State.{State, state}
 use Rattle.calls.specs.declared.call.Call.the-variants.{Hypercall}
-use Rattle.history.proofs.Seen.{own, at-most}
+use Rattle.history.proofs.StateWords.{own, at-most}
 use Rattle.history.proofs.WordsSound.{Says, WordsSound}
-use Rattle.history.proofs.Tied.{tied-named}
-use Rattle.history.proofs.Moves.{FramePut, GranulePut, pair-put}
+use Rattle.history.proofs.NamingPairs.{pair-named}
+use Rattle.history.proofs.WordMoves.{FramePut, GranulePut, pair-put}
 use Rattle.history.proofs.SameState.{frame-back, map-back}
-use Rattle.history.proofs.Does.{asking, asking-fits, does-share}
-use Rattle.history.proofs.Got.{Got, got-next, Undone, undone-put, frames-got}
-use Rattle.history.proofs.UndoGuards.{run-live, isShared, unshared-got}
+use Rattle.history.proofs.CallsDone.{asking, asking-fits, share-leaves}
+use Rattle.history.proofs.Reached.{Reached, reached-next, Undone, undone-put, frames-reached}
+use Rattle.history.proofs.UndoGuards.{run-live, isShared, unshared-reached}
 
 module _ (F W : ℕ) (bounds : lengthsHold F (8 * W) ≡ true) where
   -- of every state
@@ -43,12 +43,12 @@ module _ (F W : ℕ) (bounds : lengthsHold F (8 * W) ≡ true) where
 
     unshared-put : FramePut F W s unshared n (frame-word.Owned v false g) × GranulePut F W s unshared v g (map-word.Frame false n)
     unshared-put =
-        pair-put i v g n (said .0) (said .1) h (rw (e, said .2) (tied-named v g n true)) (frame-word.Owned v false g) (map-word.Frame false n) (tied-named v g n false) live
+        pair-put i v g n (said .0) (said .1) h (rw (e, said .2) (pair-named v g n true)) (frame-word.Owned v false g) (map-word.Frame false n) (pair-named v g n false) live
 
-    share-undone : Got F W unshared → Got F W s
-    share-undone got =
-        got-next got (Hypercall v (asking 0xC6000003 g)) (asking-fits v 0xC6000003 g (said .0) (omega arith) (omega (arith, said .1, at-most (i .sized))))
-        (does-share (unshared-put .0 .sound) v live has-run g (said .1) n (unshared-put .1 .granule)
+    share-undone : Reached F W unshared → Reached F W s
+    share-undone reached =
+        reached-next reached (Hypercall v (asking 0xC6000003 g)) (asking-fits v 0xC6000003 g (said .0) (omega arith) (omega (arith, said .1, at-most (i .sized))))
+        (share-leaves (unshared-put .0 .sound) v live has-run g (said .1) n (unshared-put .1 .granule)
         ∙ rw
         (frame-back i n (frameBits (frame-word.Owned v false g)) (frame-word.Owned v true g) h e, map-back i v g (mapBits (map-word.Frame false n)) (map-word.Frame true n) (said .0) (said .1) (said .2)))
 
@@ -60,5 +60,5 @@ module _ (F W : ℕ) (bounds : lengthsHold F (8 * W) ≡ true) where
   undo s i n h (frame-word.Owned v false g) e w = never w
   undo s i n h frame-word.Damaged e w = never w
 
-  pub sound-got : (s : State) → WordsSound F W s → Got F W s
-  sound-got s i = frames-got F W Any isShared (λ t j c none. unshared-got F W bounds t j none) (λ t j c n h w. undo t j n h (own t n) refl w) s i tt
+  pub sound-reached : (s : State) → WordsSound F W s → Reached F W s
+  sound-reached s i = frames-reached F W Any isShared (λ t j c none. unshared-reached F W bounds t j none) (λ t j c n h w. undo t j n h (own t n) refl w) s i tt

@@ -13,7 +13,7 @@ use Rattle.pairs.specs.declared.pairs.GranuleState.the-variants as granule-stat
 use Rattle.records.specs.Monitor.{guestOf}
 use Rattle.commands.specs.State.{State}
 use Rattle.history.specs.Sound.{SoundRecord, mayHold}
-use Rattle.history.proofs.Seen.{own, look, Sized}
+use Rattle.history.proofs.StateWords.{own, look, Sized}
 
 -- the state of a granule whose word is named back
 abbrev pub stateBy : MapWord → GranuleState

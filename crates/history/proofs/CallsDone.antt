@@ -33,37 +33,37 @@ use Rattle.host_removal.specs.Calls.{removed}
 use Rattle.calls.specs.Step.{step}
 use Rattle.calls.specs.declared.call.Call.the-variants.{Create, Donate, Run, Remove, RegisterWrite, Hypercall}
 use Rattle.history.specs.Reachable.{Fits}
-use Rattle.history.proofs.Seen.{own, look, lengths-hold, width-is}
+use Rattle.history.proofs.StateWords.{own, look, lengths-hold, width-is}
 use Rattle.history.proofs.WordsSound.{stateBy, WordsSound}
 use Rattle.history.proofs.SoundLaws.{pair-seen, granule-found, frame-found}
 use Rattle.history.proofs.SlotCalls.{free-row, row-undamaged}
 
 module _ {F W : ℕ} {s : State} (i : WordsSound F W s) where
-  pub does-create : (v : ℕ) → freeSlot (s .monitor) ≡ v → v < 8 → guestOf (s .monitor) v .live ≡ false
+  pub create-leaves : (v : ℕ) → freeSlot (s .monitor) ≡ v → v < 8 → guestOf (s .monitor) v .live ≡ false
       → step Create s .left ≡ state (s .frames) (s .map) (withGuest (s .monitor) v newGuest)
   unfolding step
-  does-create v e h dead = rw (e, lengths-hold (i .sized), free-row i v (λ l. dead), lt-ltb v 8 h)
+  create-leaves v e h dead = rw (e, lengths-hold (i .sized), free-row i v (λ l. dead), lt-ltb v 8 h)
 
-  pub does-donate : (v f g : ℕ) → guestOf (s .monitor) v .live ≡ true → f < F → g < W → own s f ≡ frame-word.Host → look W s v g ≡ map-word.Vacant
+  pub donate-leaves : (v f g : ℕ) → guestOf (s .monitor) v .live ≡ true → f < F → g < W → own s f ≡ frame-word.Host → look W s v g ≡ map-word.Vacant
       → step (Donate v f g) s .left ≡ effected v s (donated f g (viewOf v s)) .left
   unfolding step
-  does-donate v f g live h l host vacant =
+  donate-leaves v f g live h l host vacant =
       let slot = live-slot (s .monitor) v live in
       rw (lengths-hold (i .sized), lives (s .monitor) v, live, i .sized .frame-words, lt-ltb f F h, width-is (i .sized), lt-ltb g W l, granule-found i v g slot l, vacant, frame-found i f h, host)
 
-  pub does-run : (v : ℕ) → guestOf (s .monitor) v .live ≡ true → step (Run v) s .left ≡ state (s .frames) (s .map) (withGuest (s .monitor) v (markRun (guestOf (s .monitor) v)))
+  pub run-leaves : (v : ℕ) → guestOf (s .monitor) v .live ≡ true → step (Run v) s .left ≡ state (s .frames) (s .map) (withGuest (s .monitor) v (markRun (guestOf (s .monitor) v)))
   unfolding step
-  does-run v live = rw (lives (s .monitor) v, live)
+  run-leaves v live = rw (lives (s .monitor) v, live)
 
-  pub does-remove : (v : ℕ) → guestOf (s .monitor) v .live ≡ true → step (Remove v) s .left ≡ effected v s (removed (viewOf v s)) .left
+  pub remove-leaves : (v : ℕ) → guestOf (s .monitor) v .live ≡ true → step (Remove v) s .left ≡ effected v s (removed (viewOf v s)) .left
   unfolding step
-  does-remove v live = rw (lengths-hold (i .sized), lives (s .monitor) v, live, row-undamaged i v (live-slot (s .monitor) v live))
+  remove-leaves v live = rw (lengths-hold (i .sized), lives (s .monitor) v, live, row-undamaged i v (live-slot (s .monitor) v live))
 
   -- VENDOR_HYP, register 2, written with 0
-  pub does-write : (v : ℕ) → guestOf (s .monitor) v .live ≡ true → guestOf (s .monitor) v .run ≡ false → step (RegisterWrite v 2 0) s .left
+  pub write-leaves : (v : ℕ) → guestOf (s .monitor) v .live ≡ true → guestOf (s .monitor) v .run ≡ false → step (RegisterWrite v 2 0) s .left
       ≡ state (s .frames) (s .map) (withGuest (s .monitor) v (withBitmap VendorHyp 0 (guestOf (s .monitor) v)))
   unfolding step registerNumbered
-  does-write v live fresh = rw (lives (s .monitor) v, live, fresh)
+  write-leaves v live fresh = rw (lives (s .monitor) v, live, fresh)
 
 -- registers of a call at granule g that asks for one granule
 abbrev pub asking : ℕ → ℕ → Registers
@@ -79,9 +79,9 @@ module _ {F W : ℕ} {s : State} (i : WordsSound F W s) (v : ℕ) (live : guestO
   slot : v < 8
   slot = live-slot (s .monitor) v live
 
-  pub does-enroll : step (Hypercall v (asking 0xC6000006 0)) s .left ≡ state (s .frames) (s .map) (withGuest (s .monitor) v (enroll (guestOf (s .monitor) v)))
+  pub enroll-leaves : step (Hypercall v (asking 0xC6000006 0)) s .left ≡ state (s .frames) (s .map) (withGuest (s .monitor) v (enroll (guestOf (s .monitor) v)))
   unfolding step functionOf callRowOf actOf
-  does-enroll = rw (lengths-hold (i .sized), lives (s .monitor) v, live, has-run)
+  enroll-leaves = rw (lengths-hold (i .sized), lives (s .monitor) v, live, has-run)
 
   module _ (g : ℕ) (below : g < W) where
     found : (k : _) → look W s v g ≡ k → granuleState (s .frames) v g (mapWordOf (wordAt (s .map) v g)) ≡ stateBy k
@@ -96,18 +96,18 @@ module _ {F W : ℕ} {s : State} (i : WordsSound F W s) (v : ℕ) (live : guestO
     unfolding stepFrom changeOf
     shares f e = rw (found (map-word.Frame false f) e, width-is (i .sized), lt-ltb g W below)
 
-    pub does-share : (f : ℕ) → look W s v g ≡ map-word.Frame false f
+    pub share-leaves : (f : ℕ) → look W s v g ≡ map-word.Frame false f
         → step (Hypercall v (asking 0xC6000003 g)) s .left
         ≡ state (set (s .frames) f (frameBits (frame-word.Owned v true g))) (set (s .map) (v * W + g) (mapBits (map-word.Frame true f))) (s .monitor)
     unfolding step functionOf callRowOf actOf
-    does-share f e = rw (lengths-hold (i .sized), lives (s .monitor) v, live, has-run, base-is g, granule-address g, shares f e)
+    share-leaves f e = rw (lengths-hold (i .sized), lives (s .monitor) v, live, has-run, base-is g, granule-address g, shares f e)
 
     guards : look W s v g ≡ map-word.Vacant
         → tableStep guarding v (place (s .map) (s .frames) g) ≡ took (place (set (s .map) (v * W + g) (mapBits map-word.Guarded)) (s .frames) (suc g))
     unfolding stepFrom changeOf
     guards e = rw (found map-word.Vacant e, width-is (i .sized), lt-ltb g W below)
 
-    pub does-guard : guestOf (s .monitor) v .enrolled ≡ true → look W s v g ≡ map-word.Vacant
+    pub guard-leaves : guestOf (s .monitor) v .enrolled ≡ true → look W s v g ≡ map-word.Vacant
         → step (Hypercall v (asking 0xC6000007 g)) s .left ≡ state (s .frames) (set (s .map) (v * W + g) (mapBits map-word.Guarded)) (s .monitor)
     unfolding step functionOf callRowOf actOf
-    does-guard enrolled e = rw (lengths-hold (i .sized), lives (s .monitor) v, live, has-run, base-is g, enrolled, granule-address g, guards e)
+    guard-leaves enrolled e = rw (lengths-hold (i .sized), lives (s .monitor) v, live, has-run, base-is g, enrolled, granule-address g, guards e)

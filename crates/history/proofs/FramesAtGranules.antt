@@ -26,11 +26,11 @@ ownerAfter ownerRemoved = Waiting
 ownerAfter cleared = Host
 
 -- the word of a frame at a granule that a change is about
-abbrev pub heldThen : (ℕ → ℕ → Bool) → (ℕ → ℕ → FrameWord) → FrameWord → FrameWord
-heldThen about made Host = Host
-heldThen about made Waiting = Waiting
-heldThen about made (Owned u b h) = cond (about u h) (made u h) (Owned u b h)
-heldThen about made Damaged = Damaged
+abbrev pub ownerWhere : (ℕ → ℕ → Bool) → (ℕ → ℕ → FrameWord) → FrameWord → FrameWord
+ownerWhere about made Host = Host
+ownerWhere about made Waiting = Waiting
+ownerWhere about made (Owned u b h) = cond (about u h) (made u h) (Owned u b h)
+ownerWhere about made Damaged = Damaged
 
 owner-either : (x : Bool) (c d : FrameChange) → ownerAfter (cond x c d) ≡ cond x (ownerAfter c) (ownerAfter d)
 owner-either true c d = refl
@@ -38,7 +38,7 @@ owner-either false c d = refl
 
 -- the log follows the words
 pub owner-changed : (about : ℕ → ℕ → Bool) (made : ℕ → ℕ → FrameChange) (c : FrameChange)
-    → ownerAfter (changedWhere about made c) ≡ heldThen about (λ u h. ownerAfter (made u h)) (ownerAfter c)
+    → ownerAfter (changedWhere about made c) ≡ ownerWhere about (λ u h. ownerAfter (made u h)) (ownerAfter c)
 owner-changed about made neverDonated = refl
 owner-changed about made (donated u h) = owner-either (about u h) (made u h) (donated u h)
 owner-changed about made (shared u h) = owner-either (about u h) (made u h) (shared u h)
@@ -77,37 +77,37 @@ pub among-none : (v g u h : ℕ) → among v g 0 u h ≡ false
 among-none v g u h = among-out v g 0 u h (λ p q r. omega arith)
 
 -- n granules and then the next, of which one becomes of a kind
-pub held-none : (v g : ℕ) (made : ℕ → ℕ → FrameWord) (d : FrameWord) → heldThen (among v g 0) made d ≡ d
-held-none v g made Host = refl
-held-none v g made Waiting = refl
-held-none v g made (Owned u b h) = rw (among-none v g u h)
-held-none v g made Damaged = refl
+pub owner-where-none : (v g : ℕ) (made : ℕ → ℕ → FrameWord) (d : FrameWord) → ownerWhere (among v g 0) made d ≡ d
+owner-where-none v g made Host = refl
+owner-where-none v g made Waiting = refl
+owner-where-none v g made (Owned u b h) = rw (among-none v g u h)
+owner-where-none v g made Damaged = refl
 
-pub held-next : (k : Kind) (v g n : ℕ) (d : FrameWord)
-    → heldThen (among v (g + n) 1) (frameThen k) (heldThen (among v g n) (frameThen k) d) ≡ heldThen (among v g (suc n)) (frameThen k) d
-held-next k v g n Host = refl
-held-next k v g n Waiting = refl
-held-next k v g n (Owned u b h) = rw (among-next v g n u h) (on (among v g n u h) refl)
+pub owner-where-next : (k : Kind) (v g n : ℕ) (d : FrameWord)
+    → ownerWhere (among v (g + n) 1) (frameThen k) (ownerWhere (among v g n) (frameThen k) d) ≡ ownerWhere (among v g (suc n)) (frameThen k) d
+owner-where-next k v g n Host = refl
+owner-where-next k v g n Waiting = refl
+owner-where-next k v g n (Owned u b h) = rw (among-next v g n u h) (on (among v g n u h) refl)
   where
-    beyond : (k : Kind) → among v (g + n) 1 u h ≡ false → heldThen (among v (g + n) 1) (frameThen k) (frameThen k u h) ≡ frameThen k u h
+    beyond : (k : Kind) → among v (g + n) 1 u h ≡ false → ownerWhere (among v (g + n) 1) (frameThen k) (frameThen k u h) ≡ frameThen k u h
     beyond kind.Vacant e = refl
     beyond kind.Private e = rw e
     beyond kind.Shared e = rw e
     beyond kind.Guarded e = refl
 
     on : (x : Bool) → among v g n u h ≡ x
-        → heldThen (among v (g + n) 1) (frameThen k) (cond x (frameThen k u h) (Owned u b h)) ≡ cond (cond x true (among v (g + n) 1 u h)) (frameThen k u h) (Owned u b h)
+        → ownerWhere (among v (g + n) 1) (frameThen k) (cond x (frameThen k u h) (Owned u b h)) ≡ cond (cond x true (among v (g + n) 1 u h)) (frameThen k u h) (Owned u b h)
     on true e = beyond k (among-out v (g + n) 1 u h (λ p q r. omega (arith, among-is v g n u h e)))
     on false e = refl
-held-next k v g n Damaged = refl
+owner-where-next k v g n Damaged = refl
 
 -- one granule: a frame there, and any other
-pub held-here : (made : ℕ → ℕ → FrameWord) (v : ℕ) (b : Bool) (g : ℕ) → heldThen (among v g 1) made (Owned v b g) ≡ made v g
-held-here made v b g = rw (among-in v g 1 v g refl (omega arith) (omega arith))
+pub owner-where-here : (made : ℕ → ℕ → FrameWord) (v : ℕ) (b : Bool) (g : ℕ) → ownerWhere (among v g 1) made (Owned v b g) ≡ made v g
+owner-where-here made v b g = rw (among-in v g 1 v g refl (omega arith) (omega arith))
 
-pub held-elsewhere : (made : ℕ → ℕ → FrameWord) (v g : ℕ) (d : FrameWord) → ((b : Bool) → d ≢ Owned v b g) → heldThen (among v g 1) made d ≡ d
-held-elsewhere made v g Host n = refl
-held-elsewhere made v g Waiting n = refl
-held-elsewhere made v g (Owned u b h) n =
+pub owner-where-elsewhere : (made : ℕ → ℕ → FrameWord) (v g : ℕ) (d : FrameWord) → ((b : Bool) → d ≢ Owned v b g) → ownerWhere (among v g 1) made d ≡ d
+owner-where-elsewhere made v g Host n = refl
+owner-where-elsewhere made v g Waiting n = refl
+owner-where-elsewhere made v g (Owned u b h) n =
     rw (among-out v g 1 u h (λ p q r. n b (let same : h ≡ g = omega arith in rw (p, same))))
-held-elsewhere made v g Damaged n = refl
+owner-where-elsewhere made v g Damaged n = refl

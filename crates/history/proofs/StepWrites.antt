@@ -26,7 +26,7 @@ use Rattle.granules.specs.declared.kinds.Kind.{Kind}
 use Rattle.granules.specs.declared.kinds.Kind.the-variants.{Vacant, Private, Shared, Guarded}
 use Rattle.granules.proofs.Lent.{taken}
 use Rattle.granules.proofs.ChangeLaws.{with-frame}
-use Rattle.history.proofs.Tied.{NamesNone}
+use Rattle.history.proofs.NamingPairs.{NamesNone}
 
 -- whether a granule of a kind has a frame
 abbrev pub hasFrame : Kind → Bool

@@ -20,7 +20,7 @@ use Rattle.records.specs.declared.guest.Guest.{Guest}
 use Rattle.host_donation.specs.Calls.{granuleVacant, frameHosts}
 use Rattle.host_frames.specs.Calls.{frameWaiting}
 use Rattle.history.specs.Sound.{mayHold}
-use Rattle.history.proofs.Seen.{width-is}
+use Rattle.history.proofs.StateWords.{width-is}
 use Rattle.history.proofs.WordsSound.{stateBy, WordsSound}
 use Rattle.history.proofs.SoundLaws.{granule-sound, frameBy}
 

@@ -16,9 +16,9 @@ use Rattle.commands.proofs.TestLaws.{Passes}
 use Rattle.calls.specs.Step.{commandOf, FrameEvent, donation, removal, clearing, guestCall, otherEvent, frameEvent, step}
 use Rattle.calls.specs.declared.call.Call.{Call}
 use Rattle.history.specs.Log.{FrameChange, hostDone, guestDone, afterEvent, afterCall}
-use Rattle.history.proofs.Seen.{own}
+use Rattle.history.proofs.StateWords.{own}
 use Rattle.history.proofs.WordsSound.{WordsSound}
-use Rattle.history.proofs.Held.{ownerAfter}
+use Rattle.history.proofs.FramesAtGranules.{ownerAfter}
 
 -- neither of the verdicts 1 and 6
 abbrev pub usual : Numbers → Bool
@@ -28,7 +28,7 @@ usual n = not (eqb (n .verdict) 1) && not (eqb (n .verdict) 6)
 abbrev pub undone : Numbers → Bool
 undone n = not (hostDone n) && not (guestDone n)
 
-pub record Kept (F W : ℕ) (s : State) (c : Call) (r : Answered) : Type 0 where
+pub record Preserved (F W : ℕ) (s : State) (c : Call) (r : Answered) : Type 0 where
   pub sound : WordsSound F W (r .left)
   pub logged : (f : ℕ) → f < F → (x : FrameChange) → own s f ≡ ownerAfter x → own (r .left) f ≡ ownerAfter (afterCall f c (numbersOf (r .answer)) x)
   pub usual-verdict : usual (numbersOf (r .answer)) ≡ true
@@ -76,20 +76,20 @@ pub sure : {A : Type 0} (b : Bool) → b ≡ true → b ≡ false → A
 sure b t f = never (sym f ∙ t)
 
 module _ {F W : ℕ} {s : State} (i : WordsSound F W s) (c : Call) (v : ℕ) where
-  pub refused-kept : (a : Answer) → Fine a → Kept F W s c (effected v s (answerOnly a))
+  pub refused-kept : (a : Answer) → Fine a → Preserved F W s c (effected v s (answerOnly a))
   refused-kept a h = record {
     sound = i;
     logged = λ f l x e. rw (undone-log f c (numbersOf a) x (h .0)) e;
     usual-verdict = h .1;
   }
 
-  tests-kept : (ts : Tests Answer) (d : Effect) → Refusals ts → (Passes ts → Kept F W s c (effected v s d))
-      → Kept F W s c (effected v s (unlessRefused (firstRefusal ts) d))
+  tests-kept : (ts : Tests Answer) (d : Effect) → Refusals ts → (Passes ts → Preserved F W s c (effected v s d))
+      → Preserved F W s c (effected v s (unlessRefused (firstRefusal ts) d))
   tests-kept [] d r k = k tt
   tests-kept (t ∷ ts) d r k = on (t .0) refl (λ q h. tests-kept ts d q h)
     where
-      on : (b : Bool) → t .0 ≡ b → (Refusals ts → (Passes ts → Kept F W s c (effected v s d)) → Kept F W s c (effected v s (unlessRefused (firstRefusal ts) d)))
-          → Kept F W s c (effected v s (unlessRefused (cond b (firstRefusal ts) (some (t .1))) d))
+      on : (b : Bool) → t .0 ≡ b → (Refusals ts → (Passes ts → Preserved F W s c (effected v s d)) → Preserved F W s c (effected v s (unlessRefused (firstRefusal ts) d)))
+          → Preserved F W s c (effected v s (unlessRefused (cond b (firstRefusal ts) (some (t .1))) d))
       on true e more = more (r .1 e) (λ p. k (e, p))
       on false e more = refused-kept (t .1) (r .0 e)
 
@@ -111,6 +111,6 @@ seenIn s c = viewOf (slotIn s c) s
 
 -- a call by its tests and its effect
 pub call-kept : {F W : ℕ} {s : State} → WordsSound F W s → (c : Call) → Refusals (testsOf (commandOf c) (seenIn s c))
-    → (Passes (testsOf (commandOf c) (seenIn s c)) → Kept F W s c (effected (slotIn s c) s (effectOf (commandOf c) (seenIn s c)))) → Kept F W s c (step c s)
+    → (Passes (testsOf (commandOf c) (seenIn s c)) → Preserved F W s c (effected (slotIn s c) s (effectOf (commandOf c) (seenIn s c)))) → Preserved F W s c (step c s)
 unfolding step
 call-kept {s = s} i c r k = tests-kept i c (slotIn s c) (testsOf (commandOf c) (seenIn s c)) (effectOf (commandOf c) (seenIn s c)) r k

@@ -30,13 +30,13 @@ pub surely-here : (v g u h : ℕ) → u ≡ v → h ≡ g → here v g u h ≡ t
 surely-here v g u h p q = rw (eq-eqb u v p, eq-eqb h g q)
 
 -- the word of frame f and the word of granule g of slot v name each other, or none
-pub record Tied (v g f : ℕ) (d : FrameWord) (e : MapWord) : Type 0 where
+pub record NameOnlyEachOther (v g f : ℕ) (d : FrameWord) (e : MapWord) : Type 0 where
   pub whole : d ≢ frame-word.Damaged
   pub to : (u : ℕ) (b : Bool) (h : ℕ) → d ≡ frame-word.Owned u b h → (u ≡ v) × (h ≡ g) × (e ≡ map-word.Frame b f)
   pub from : (b : Bool) (k : ℕ) → e ≡ map-word.Frame b k → (k ≡ f) × (d ≡ frame-word.Owned v b g)
 
-pub tied-named : (v g f : ℕ) (b : Bool) → Tied v g f (frame-word.Owned v b g) (map-word.Frame b f)
-tied-named v g f b = record { whole = λ e. let z : _≡_ {A = ℕ} 0 1 = cc in omega arith; to = λ u c h e. (cc, cc, cc); from = λ c k e. (cc, cc) }
+pub pair-named : (v g f : ℕ) (b : Bool) → NameOnlyEachOther v g f (frame-word.Owned v b g) (map-word.Frame b f)
+pair-named v g f b = record { whole = λ e. let z : _≡_ {A = ℕ} 0 1 = cc in omega arith; to = λ u c h e. (cc, cc, cc); from = λ c k e. (cc, cc) }
 
 -- neither names another
 abbrev pub FrameFree : FrameWord → Type 0
@@ -60,8 +60,8 @@ free-owned d h v b g e = rw e at h
 pub none-named : (e : MapWord) → NamesNone e → (b : Bool) (f : ℕ) → e ≡ map-word.Frame b f → ⊥
 none-named e h b f q = rw q at h
 
-pub tied-apart : (v g f : ℕ) (d : FrameWord) (e : MapWord) → FrameFree d → NamesNone e → Tied v g f d e
-tied-apart v g f d e h n = record {
+pub pair-apart : (v g f : ℕ) (d : FrameWord) (e : MapWord) → FrameFree d → NamesNone e → NameOnlyEachOther v g f d e
+pair-apart v g f d e h n = record {
   whole = free-sound d h;
   to = λ u b k q. absurd (free-owned d h u b k q);
   from = λ b k q. absurd (none-named e n b k q);

@@ -19,9 +19,9 @@ use Rattle.words.proofs.Booleans.{never}
 use Rattle.records.specs.Monitor.{guestOf}
 use Rattle.commands.specs.State.{State, state}
 use Rattle.history.specs.Sound.{mayHold}
-use Rattle.history.proofs.Seen.{own, look, Sized, at-most, index-below, frame-built, frame-other, map-built, map-other}
+use Rattle.history.proofs.StateWords.{own, look, Sized, at-most, index-below, frame-built, frame-other, map-built, map-other}
 use Rattle.history.proofs.WordsSound.{stateBy, Says, SaysBack, WordsSound, changed-sound}
-use Rattle.history.proofs.Tied.{Tied, FrameFree, NamesNone, here, is-here, not-here, surely-here, free-sound, free-owned, none-named, free-fits, none-fits}
+use Rattle.history.proofs.NamingPairs.{NameOnlyEachOther, FrameFree, NamesNone, here, is-here, not-here, surely-here, free-sound, free-owned, none-named, free-fits, none-fits}
 
 module _ {F W : ℕ} {s : State} (z : Sized F W s) where
   sized-put : (f i x y : ℕ) → Sized F W (state (set (s .frames) f x) (set (s .map) i y) (s .monitor))
@@ -32,17 +32,17 @@ module _ {F W : ℕ} {s : State} (z : Sized F W s) where
     guests = z .guests;
   }
 
-  tied-frame-fits : (v g f : ℕ) → v < 8 → g < W → (d : FrameWord) (e : MapWord) → Tied v g f d e → FrameFits d
-  tied-frame-fits v g f h l frame-word.Host e t = tt
-  tied-frame-fits v g f h l frame-word.Waiting e t = tt
-  tied-frame-fits v g f h l (frame-word.Owned u b k) e t = let p = t .to u b k refl in (omega arith, omega (arith, at-most z))
-  tied-frame-fits v g f h l frame-word.Damaged e t = tt
+  pair-frame-fits : (v g f : ℕ) → v < 8 → g < W → (d : FrameWord) (e : MapWord) → NameOnlyEachOther v g f d e → FrameFits d
+  pair-frame-fits v g f h l frame-word.Host e t = tt
+  pair-frame-fits v g f h l frame-word.Waiting e t = tt
+  pair-frame-fits v g f h l (frame-word.Owned u b k) e t = let p = t .to u b k refl in (omega arith, omega (arith, at-most z))
+  pair-frame-fits v g f h l frame-word.Damaged e t = tt
 
-  tied-map-fits : (v g f : ℕ) → f < F → (d : FrameWord) (e : MapWord) → Tied v g f d e → MapFits e
-  tied-map-fits v g f h d map-word.Vacant t = tt
-  tied-map-fits v g f h d (map-word.Frame b k) t = let p = t .from b k refl in omega (arith, at-most z)
-  tied-map-fits v g f h d map-word.Guarded t = tt
-  tied-map-fits v g f h d map-word.Damaged t = tt
+  pair-map-fits : (v g f : ℕ) → f < F → (d : FrameWord) (e : MapWord) → NameOnlyEachOther v g f d e → MapFits e
+  pair-map-fits v g f h d map-word.Vacant t = tt
+  pair-map-fits v g f h d (map-word.Frame b k) t = let p = t .from b k refl in omega (arith, at-most z)
+  pair-map-fits v g f h d map-word.Guarded t = tt
+  pair-map-fits v g f h d map-word.Damaged t = tt
 
 -- frame f, alone, has the word d in t, and the invariant is kept
 pub record FramePut (F W : ℕ) (s t : State) (f : ℕ) (d : FrameWord) : Type 0 where
@@ -57,14 +57,14 @@ pub record GranulePut (F W : ℕ) (s t : State) (v g : ℕ) (e : MapWord) : Type
   pub granules : (u h : ℕ) → h < W → ((u ≡ v) × (h ≡ g) → ⊥) → look W t u h ≡ look W s u h
 
 -- a granule with its frame
-module _ {F W : ℕ} {s : State} (i : WordsSound F W s) (v g f : ℕ) (hv : v < 8) (hg : g < W) (hf : f < F) (old : Tied v g f (own s f) (look W s v g))
-    (d : FrameWord) (e : MapWord) (new : Tied v g f d e) (may : mayHold (guestOf (s .monitor) v) (stateBy e) ≡ true) where
+module _ {F W : ℕ} {s : State} (i : WordsSound F W s) (v g f : ℕ) (hv : v < 8) (hg : g < W) (hf : f < F) (old : NameOnlyEachOther v g f (own s f) (look W s v g))
+    (d : FrameWord) (e : MapWord) (new : NameOnlyEachOther v g f d e) (may : mayHold (guestOf (s .monitor) v) (stateBy e) ≡ true) where
   abbrev paired : State
   paired = state (set (s .frames) f (frameBits d)) (set (s .map) (v * W + g) (mapBits e)) (s .monitor)
 
   own-paired : own paired f ≡ d
   unfolding own
-  own-paired = frame-built (s .frames) f d (omega (arith, i .sized .frame-words)) (tied-frame-fits (i .sized) v g f hv hg d e new)
+  own-paired = frame-built (s .frames) f d (omega (arith, i .sized .frame-words)) (pair-frame-fits (i .sized) v g f hv hg d e new)
 
   own-unpaired : (k : ℕ) → k ≢ f → own paired k ≡ own s k
   unfolding own
@@ -72,7 +72,7 @@ module _ {F W : ℕ} {s : State} (i : WordsSound F W s) (v g f : ℕ) (hv : v < 
 
   look-paired : look W paired v g ≡ e
   unfolding look
-  look-paired = map-built (s .map) W v g e (omega (arith, i .sized .map-words, index-below W v g hv hg)) (tied-map-fits (i .sized) v g f hf d e new)
+  look-paired = map-built (s .map) W v g e (omega (arith, i .sized .map-words, index-below W v g hv hg)) (pair-map-fits (i .sized) v g f hf d e new)
 
   look-unpaired : (u h : ℕ) → h < W → ((u ≡ v) × (h ≡ g) → ⊥) → look W paired u h ≡ look W s u h
   unfolding look
