@@ -92,17 +92,17 @@ single-took c v r3 b s t e =
     }
 
 -- after k steps of slot v from the state s, before the address b: the words from there on are those of s, and k words differ
-record Sofar (v : ℕ) (s : State) (k b : ℕ) (t : State) : Type 0 where
+record StepsCounted (v : ℕ) (s : State) (k b : ℕ) (t : State) : Type 0 where
   lengths : length (t .map) ≡ length (s .map)
   ahead : (i : ℕ) → wordIndex (length (s .map)) v (granuleOf b) ≤ i → getD (t .map) i 0 ≡ getD (s .map) i 0
   count : k ≡ differing (s .map) (t .map)
 
-SofarAt : ℕ → State → ℕ → At → Type 0
-SofarAt v s k (at b t) = Sofar v s k b t
+StepsCountedAt : ℕ → State → ℕ → At → Type 0
+StepsCountedAt v s k (at b t) = StepsCounted v s k b t
 
 module _ (c : RangeCall) (v r3 : ℕ) (s : State) where
-  next : (k : ℕ) (p q : At) → SofarAt v s k p → singleStep c v r3 p ≡ took q → SofarAt v s (suc k) q
-  unfolding SofarAt
+  next : (k : ℕ) (p q : At) → StepsCountedAt v s k p → singleStep c v r3 p ≡ took q → StepsCountedAt v s (suc k) q
+  unfolding StepsCountedAt
   next k (at b t) q i e =
       let u = single-took c v r3 b t q e in
       let g = granuleOf b in
@@ -119,13 +119,13 @@ module _ (c : RangeCall) (v r3 : ℕ) (s : State) where
         count = ap suc (i .count) ∙ sym (differing-set (s .map) (t .map) x y (i .lengths) (omega (arith, inside, u .below)) same (λ z. u .word (same ∙ z)));
       })
 
-  counts : (e : End At Numbers) → Holds (SofarAt v s) 0 e → CountsChanges s e
-  unfolding SofarAt
+  counts : (e : End At Numbers) → Holds (StepsCountedAt v s) 0 e → CountsChanges s e
+  unfolding StepsCountedAt
   counts (ended k (at b t) r) h = sym (zero-add k) ∙ h .count
 
   -- the steps done are the map words that differ from the start
   pub single-steps-count : (n b : ℕ) → CountsChanges s (run (singleStep c v r3) n (at b s))
-  unfolding SofarAt
+  unfolding StepsCountedAt
   single-steps-count n b =
       counts (run (singleStep c v r3) n (at b s))
-      (kept (SofarAt v s) (singleStep c v r3) next n 0 (at b s) (record { lengths = refl; ahead = λ i h. refl; count = sym (differing-none (s .map)) }))
+      (kept (StepsCountedAt v s) (singleStep c v r3) next n 0 (at b s) (record { lengths = refl; ahead = λ i h. refl; count = sym (differing-none (s .map)) }))

@@ -41,22 +41,22 @@ abbrev Leaves : ℕ → State → Effect → Type 0
 Leaves v s e = Tables v s (effected v s e .left .frames) (effected v s e .left .map)
 
 -- a range of slot v that began in s, before granule g: it kept within, and the map words from that granule's on are those of s
-record Sofar (v : ℕ) (s : State) (map frames : List ℕ) (g : ℕ) : Type 0 where
+record RangeWithin (v : ℕ) (s : State) (map frames : List ℕ) (g : ℕ) : Type 0 where
   tables : Tables v s frames map
   ahead : (i : ℕ) → wordIndex (length (s .map)) v g ≤ i → getD map i 0 ≡ getD (s .map) i 0
 
-SofarAt : ℕ → State → ℕ → Place → Type 0
-SofarAt v s k (place map frames g) = Sofar v s map frames g
+RangeWithinAt : ℕ → State → ℕ → Place → Type 0
+RangeWithinAt v s k (place map frames g) = RangeWithin v s map frames g
 
-finished-within : (v : ℕ) (s : State) (e : Error) (tells : Bool) (x : End Place Refusal) → Holds (SofarAt v s) 0 x → Leaves v s (finished e tells x)
-unfolding SofarAt
+finished-within : (v : ℕ) (s : State) (e : Error) (tells : Bool) (x : End Place Refusal) → Holds (RangeWithinAt v s) 0 x → Leaves v s (finished e tells x)
+unfolding RangeWithinAt
 finished-within v s e tells (ended zero (place map frames g) r) h = same-tables v s
 finished-within v s e tells (ended (suc k) (place map frames g) r) h = h .tables
 
 module _ (o : Operation) (v : ℕ) (s : State) where
   -- a step that is taken keeps that
-  next : (k : ℕ) (p q : Place) → SofarAt v s k p → tableStep o v p ≡ took q → SofarAt v s (suc k) q
-  unfolding SofarAt
+  next : (k : ℕ) (p q : Place) → RangeWithinAt v s k p → tableStep o v p ≡ took q → RangeWithinAt v s (suc k) q
+  unfolding RangeWithinAt
   next k (place map frames g) (place map′ frames′ g′) h e =
       let u = step-took o v map frames g (place map′ frames′ g′) e in
       let w = h .tables in
@@ -78,10 +78,10 @@ module _ (o : Operation) (v : ℕ) (s : State) where
         ahead = λ i l. u .map-words i (omega (arith, index, u .next-granule)) ∙ h .ahead i (omega (arith, u .next-granule));
       }
 
-  range-sofar : (n g : ℕ) → Holds (SofarAt v s) 0 (run (tableStep o v) n (place (s .map) (s .frames) g))
-  unfolding SofarAt
-  range-sofar n g =
-      kept (SofarAt v s) (tableStep o v) next n 0 (place (s .map) (s .frames) g) (record { tables = same-tables v s; ahead = λ i l. refl })
+  range-within : (n g : ℕ) → Holds (RangeWithinAt v s) 0 (run (tableStep o v) n (place (s .map) (s .frames) g))
+  unfolding RangeWithinAt
+  range-within n g =
+      kept (RangeWithinAt v s) (tableStep o v) next n 0 (place (s .map) (s .frames) g) (record { tables = same-tables v s; ahead = λ i l. refl })
 
 act-within : (v : ℕ) (r : Registers) (e : Error) (a : Action) (s : State) → Leaves v s (actOf r e a (viewOf v s))
 unfolding actOf
@@ -91,7 +91,7 @@ act-within v r e action.Enroll s = same-tables v s
 act-within v r e (action.Change o n) s =
     let k = min rangeLimit (granulesOf n (r .r2)) in
     let g = granuleOf (r .r1) in
-    finished-within v s e (isTold n) (run (tableStep o v) k (place (s .map) (s .frames) g)) (range-sofar o v s k g)
+    finished-within v s e (isTold n) (run (tableStep o v) k (place (s .map) (s .frames) g)) (range-within o v s k g)
 
 -- for any state, any lengths and any slot
 pub hypercall-within : (v : ℕ) (r : Registers) (s : State) → Within v s (hypercallOf v r s .left)
