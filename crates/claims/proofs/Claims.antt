@@ -4,11 +4,12 @@
 use mathlib.Core.Path.{_≡_, refl}
 use mathlib.Core.Logic.{_≢_}
 use mathlib.Core.Bool.{true}
-use mathlib.Core.List.{List, map}
+use mathlib.Core.List.{List}
 use Prim.Native.Nat.{ℕ, _%_, _<_, _^_}
 use native.Mathlib.Omega.{arith}
 use Rattle.runs.specs.Run.{outOfFuel, sum, stopOf}
 use Rattle.runs.specs.Made.{callsMade, Every}
+use Rattle.runs.specs.Worked.{AsExpected}
 use Rattle.runs.proofs.Pieces.{pieces-run, pieces-fuelled}
 use Rattle.words.specs.MapWord.{mapBits, mapWordOf}
 use Rattle.words.specs.FrameWord.{frameBits, frameWordOf}
@@ -42,7 +43,6 @@ use Rattle.claims.specs.Pieces.{callAt, carriedOn, CountsChanges, Addres
 use Rattle.claims.specs.R1.{TellsChanges}
 use Rattle.claims.specs.Footprint.{Within}
 use Rattle.claims.specs.HostCalls.{SevenExactly, RowOrEmpty, CountsFrames}
-use Rattle.claims.specs.Case.{found, expected}
 use Rattle.claims.specs.Cases.{cases}
 use Rattle.claims.specs.HostCases.{hostCases}
 use Rattle.claims.proofs.CallAgrees.{call-agrees}
@@ -108,11 +108,11 @@ pub remove-counts-frames : (v : ℕ) (s : State) → CountsFrames s (removeOf v 
 remove-counts-frames v s = removal-counts v s
 
 -- "Cases marked * are proved about the rules themselves, together, as one table under one statement"
-pub case-table : map found cases ≡ map expected cases
+pub case-table : AsExpected cases
 unfolding step donateOf hypercallOf abortOf actOf guestAccessOf functionOf callRowOf stepFrom changeOf granuleState pairAt frameState pairOf mapWordOf frameWordOf mapBits frameBits numbersOf guestOf withGuest framesHold mapHolds
 case-table = refl
 
 -- and cases of the host's calls: each verdict that one can have, in sound and in damaged tables
-pub host-case-table : map found hostCases ≡ map expected hostCases
+pub host-case-table : AsExpected hostCases
 unfolding step createOf freeFrom donateOf runOf removeOf clearedOf hostAccessOf showOf registerReadOf registerWriteOf registerNumbered rowVacant undamagedFrom framesFreed framesNamed boundsOf frameState pairOf granuleState pairAt mapWordOf frameWordOf mapBits frameBits numbersOf guestOf withGuest framesHold mapHolds
 host-case-table = refl

@@ -2,6 +2,7 @@
 use mathlib.Core.List.{List, [], _∷_}
 use Prim.Native.Nat.{ℕ, _-_, _^_}
 use lib.ListN.{replicate, set}
+use Rattle.runs.specs.Worked.{Case}
 use Rattle.records.specs.Monitor.{newGuest, markRun, fresh, withGuest}
 use Rattle.answers.specs.Answer.{numbers, verdictWith}
 use Rattle.commands.specs.State.{State, state}
@@ -10,7 +11,7 @@ use Rattle.answers.specs.declared.answer.Numbers.{Numbers}
 use Rattle.functions.specs.Rules.{registers}
 use Rattle.calls.specs.declared.call.Call.{Call}
 use Rattle.calls.specs.declared.call.Call.the-variants.{Donate, Hypercall, Abort}
-use Rattle.claims.specs.Case.{Case, case}
+use Rattle.claims.specs.Case.{case}
 
 -- a guest that was run
 abbrev pub caller : Guest
@@ -38,7 +39,7 @@ abbrev pub enroll : Call
 enroll = hypercall0 0xC6000006 0 0 0
 
 -- in the sheet's order
-abbrev pub cases : List Case
+abbrev pub cases : List (Case Numbers)
 cases =
     case bench [] (share 0x5000 2) (returnsDone 1)
     ∷ case bench (share 0x5000 2 ∷ []) (share 0x6000 1) (returnsError 3)

@@ -3,6 +3,7 @@ use mathlib.Core.Bool.{true, false}
 use mathlib.Core.List.{List, [], _∷_, _++_}
 use Prim.Native.Nat.{ℕ, _-_, _^_}
 use lib.ListN.{replicate}
+use Rattle.runs.specs.Worked.{Case}
 use Rattle.records.specs.Monitor.{withFlags, withBitmaps, zeroGuest, newGuest, markRun}
 use Rattle.answers.specs.Answer.{verdictWith}
 use Rattle.commands.specs.State.{State, state}
@@ -10,7 +11,7 @@ use Rattle.records.specs.declared.guest.Guest.{Guest}
 use Rattle.records.specs.declared.monitor.Monitor.{Monitor}
 use Rattle.answers.specs.declared.answer.Numbers.{Numbers}
 use Rattle.calls.specs.declared.call.Call.the-variants.{Create, Donate, Run, Remove, Cleared, Access, Show, RegisterRead, RegisterWrite}
-use Rattle.claims.specs.Case.{Case, case}
+use Rattle.claims.specs.Case.{case}
 
 -- a record that is not live and not zero
 abbrev pub deadNonZero : Guest
@@ -56,7 +57,7 @@ abbrev pub registerRefused : ℕ → Numbers
 registerRefused n = verdictWith 9 (2 ^ 64 - n)
 
 -- create, donate
-abbrev pub creations : List Case
+abbrev pub creations : List (Case Numbers)
 creations =
     case sound [] Create (hostDoneWith 2)
     -- the dead record's bitmap is not kept
@@ -84,7 +85,7 @@ creations =
     ∷ []
 
 -- run, remove
-abbrev pub runs : List Case
+abbrev pub runs : List (Case Numbers)
 runs =
     case sound [] (Run 1) (hostDoneWith 0)
     ∷ case sound [] (Run 0) (hostDoneWith 0)
@@ -102,7 +103,7 @@ runs =
     ∷ []
 
 -- cleared, access, show
-abbrev pub looks : List Case
+abbrev pub looks : List (Case Numbers)
 looks =
     case sound [] (Cleared 3) (hostDoneWith 0)
     ∷ case sound (Cleared 3 ∷ []) (Access 3) (hostDoneWith 1)
@@ -128,7 +129,7 @@ looks =
     ∷ []
 
 -- firmware registers
-abbrev pub registerCases : List Case
+abbrev pub registerCases : List (Case Numbers)
 registerCases =
     case noFrames [] (RegisterRead 1 2) (hostDoneWith 1)
     ∷ case sound [] (RegisterRead 1 0) (hostDoneWith 0)
@@ -146,5 +147,5 @@ registerCases =
     ∷ case sound [] (RegisterWrite 2 3 1) (hostRefused 2)
     ∷ []
 
-abbrev pub hostCases : List Case
+abbrev pub hostCases : List (Case Numbers)
 hostCases = creations ++ (runs ++ (looks ++ registerCases))

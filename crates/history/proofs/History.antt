@@ -2,12 +2,13 @@
 use mathlib.Core.Path.{_≡_, refl, ap, subst, _∙_}
 use mathlib.Core.Logic.{_≢_}
 use mathlib.Core.Bool.{Bool, true, false, not}
-use mathlib.Core.List.{List, map}
+use mathlib.Core.List.{List}
 use Prim.Native.Nat.{ℕ, _*_, _/_, _%_, _<_, _≤_}
 use native.Mathlib.Omega.{arith}
 use borrow.Author.Tests.{lt-ltb, le-ltb, le-leb, eq-eqb}
 use lib.Dec.{eqb}
 use lib.ListN.{length}
+use Rattle.runs.specs.Worked.{AsExpected}
 use Rattle.words.specs.MapWord.{mapWordOf, mapBits}
 use Rattle.words.specs.FrameWord.{frameBits, frameWordOf}
 use Rattle.words.specs.declared.map_word.MapWord.the-variants as map-word
@@ -38,7 +39,7 @@ use Rattle.history.specs.Log.{FrameChange, neverDonated, donated, shared
 use Rattle.history.specs.History.{logOf, privateOrWaiting}
 use Rattle.history.specs.Reachable.{Reachable}
 use Rattle.history.specs.Sound.{Sound}
-use Rattle.history.specs.Cases.{logs, found, expected}
+use Rattle.history.specs.Cases.{logs}
 use Rattle.history.proofs.StateWords.{own, look, lengths-hold, width-is}
 use Rattle.history.proofs.WordsSound.{WordsSound}
 use Rattle.history.proofs.SoundLaws.{frameBy, frame-found, frame-sound, words-sound, sound-words}
@@ -151,6 +152,6 @@ pub reachable-exactly : (s : State) → (Reachable s → Sound s) × (Sound s �
 reachable-exactly s = (reachable-sound s, sound-reachable s)
 
 -- Worked logs: the last change that each says of a frame, and what access then answers.
-pub history-cases : map found logs ≡ map expected logs
+pub history-cases : AsExpected logs
 unfolding step createOf freeFrom donateOf runOf removeOf clearedOf hostAccessOf hypercallOf actOf functionOf callRowOf stepFrom changeOf rowVacant undamagedFrom framesFreed framesNamed boundsOf frameState pairOf granuleState pairAt mapWordOf frameWordOf mapBits frameBits numbersOf guestOf withGuest framesHold mapHolds afterHypercall
 history-cases = refl

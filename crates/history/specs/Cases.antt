@@ -1,6 +1,7 @@
 -- Worked logs: what calls from fresh tables of 256 frames and 64 granules a slot come to, for one frame.
 use mathlib.Core.List.{List, [], _∷_, _++_}
 use Prim.Native.Nat.{ℕ, _*_}
+use Rattle.runs.specs.Worked.{Case}
 use Rattle.answers.specs.Answer.{numbersOf, verdictWith}
 use Rattle.answers.specs.declared.answer.Numbers.{Numbers}
 use Rattle.functions.specs.Rules.{registers}
@@ -11,22 +12,10 @@ use Rattle.history.specs.Log.{FrameChange, neverDonated, donated, shared
 use Rattle.history.specs.History.{logOf}
 
 -- calls, a frame, the last change that their log says of it, and what access then answers
-pub record Case : Type 0 where
-  pub calls : List Call
-  pub frame : ℕ
-  pub change : FrameChange
-  pub access : ℕ
-
-abbrev case : List Call → ℕ → FrameChange → ℕ → Case
-case cs f c n = record { calls = cs; frame = f; change = c; access = n }
-
-abbrev pub expected : Case → FrameChange × Numbers
-expected c = (c .change, verdictWith 0 (c .access))
-
-abbrev pub found : Case → FrameChange × Numbers
-found c =
+abbrev case : List Call → ℕ → FrameChange → ℕ → Case (FrameChange × Numbers)
+case cs f c n =
     let s = freshState 256 64 in
-    (lastChange (logOf (c .calls) s) (c .frame), numbersOf (step (Access (c .frame)) (stateAfter (c .calls) s) .answer))
+    record { found = (lastChange (logOf cs s) f, numbersOf (step (Access f) (stateAfter cs s) .answer)); expected = (c, verdictWith 0 n) }
 
 -- a call of slot v at granule g with a count
 abbrev asks : ℕ → ℕ → ℕ → ℕ → Call
@@ -36,7 +25,7 @@ asks v number g n = Hypercall v (registers number (g * 4096) n 0)
 abbrev began : List Call
 began = Create ∷ Donate 0 3 5 ∷ Donate 0 4 7 ∷ Create ∷ Donate 1 9 5 ∷ Run 0 ∷ Run 1 ∷ []
 
-abbrev pub logs : List Case
+abbrev pub logs : List (Case (FrameChange × Numbers))
 logs =
     case [] 3 neverDonated 1
     ∷ case began 200 neverDonated 1

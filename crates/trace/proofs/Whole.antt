@@ -1,11 +1,12 @@
 -- Whole logs: how pieces join, what the text of a whole log is, and document 01's cases.
 use mathlib.Core.Path.{_≡_, refl, _∙_, sym, ap}
 use mathlib.Core.Bool.{Bool, true, false}
-use mathlib.Core.List.{List, [], _++_, map, append-nil, append-assoc}
+use mathlib.Core.List.{List, [], _++_, append-nil, append-assoc}
 use Prim.Native.Nat.{ℕ, _+_, _≤_, _<_}
 use native.Mathlib.Omega.{arith}
 use lib.ListN.{length, drop}
 use lib.Seq.{drop-drop, drop-append-le}
+use Rattle.runs.specs.Worked.{AsExpected}
 use Rattle.words.specs.MapWord.{mapBits, mapWordOf}
 use Rattle.words.specs.FrameWord.{frameBits, frameWordOf}
 use Rattle.tables.specs.Length.{framesHold, mapHolds}
@@ -31,7 +32,7 @@ use Rattle.trace_lines.specs.Line.{numeral, decimal, lineText}
 use Rattle.trace_lines.specs.declared.lines.Line.the-variants.{First}
 use Rattle.trace.specs.Replay.{Replay, Advance, waiting, unlessStopped, advanceOf, textBefore, outcome, outcomeOf, freshReplay, closing, replayText}
 use Rattle.trace.specs.Contracts.{Continues}
-use Rattle.trace.specs.Cases.{cases, found, expected}
+use Rattle.trace.specs.Cases.{cases}
 use Rattle.trace.proofs.ReplayLaws.{one-record}
 
 -- A log in two pieces: what the first left unread stands before the second, and the texts stand one behind the other.
@@ -68,6 +69,6 @@ unfolding advanceOf
 held-at-most r s h = held-by (r .stopped) r s (decodeOf s) refl refl h
 
 -- document 01's example and the empty input
-pub log-cases : map found cases ≡ map expected cases
+pub log-cases : AsExpected cases
 unfolding replayText outcomeOf advanceOf decodeOf kindOf numeral decimal step createOf freeFrom donateOf runOf hypercallOf actOf functionOf callRowOf stepFrom changeOf rowVacant boundsOf frameState pairOf granuleState pairAt mapWordOf frameWordOf mapBits frameBits numbersOf guestOf withGuest framesHold mapHolds
 log-cases = refl

@@ -1,6 +1,7 @@
 -- Document 01, "Trace program": its example, and the empty input.
 use mathlib.Core.List.{List, [], _∷_, _++_}
 use Prim.Native.Nat.{ℕ}
+use Rattle.runs.specs.Worked.{Case}
 use Rattle.trace.specs.Replay.{replayText}
 
 -- the bytes before a record's arguments: length, version 1, kind, slot 0
@@ -40,14 +41,8 @@ abbrev pub emptyText : List ℕ
 emptyText = firstLine ++ (101 ∷ 110 ∷ 100 ∷ 32 ∷ 48 ∷ 10 ∷ [])
 
 -- a log, and the whole output of its replay
-pub data LogCase : Type 0 where
-  logCase : List ℕ → List ℕ → LogCase
+abbrev logCase : List ℕ → List ℕ → Case (List ℕ)
+logCase log text = record { found = replayText log; expected = text }
 
-abbrev pub found : LogCase → List ℕ
-found (logCase log text) = replayText log
-
-abbrev pub expected : LogCase → List ℕ
-expected (logCase log text) = text
-
-abbrev pub cases : List LogCase
+abbrev pub cases : List (Case (List ℕ))
 cases = logCase exampleLog exampleText ∷ logCase [] emptyText ∷ []

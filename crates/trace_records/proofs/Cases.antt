@@ -1,7 +1,8 @@
 -- Worked records, closed by computing them.
-use mathlib.Core.Path.{_≡_, refl}
-use mathlib.Core.List.{List, [], _∷_, _++_, map}
+use mathlib.Core.Path.{refl}
+use mathlib.Core.List.{List, [], _∷_, _++_}
 use Prim.Native.Nat.{ℕ}
+use Rattle.runs.specs.Worked.{Case, AsExpected}
 use Rattle.calls.specs.declared.call.Call.the-variants as call
 use Rattle.trace_records.specs.declared.decoding.Decoded.{Decoded}
 use Rattle.trace_records.specs.declared.decoding.Decoded.the-variants.{Record, Bad, Unfinished}
@@ -12,16 +13,11 @@ use Rattle.trace_records.specs.Record.{decodeOf}
 abbrev pub bytes : List ℕ
 bytes = 1 ∷ 2 ∷ 3 ∷ 4 ∷ 5 ∷ 6 ∷ 7 ∷ 8 ∷ []
 
-pub data RecordCase : Type 0 where
-  recordCase : List ℕ → Decoded → RecordCase
+-- bytes, and what they decode to
+abbrev recordCase : List ℕ → Decoded → Case Decoded
+recordCase s d = record { found = decodeOf s; expected = d }
 
-abbrev pub found : RecordCase → Decoded
-found (recordCase s d) = decodeOf s
-
-abbrev pub expected : RecordCase → Decoded
-expected (recordCase s d) = d
-
-abbrev pub cases : List RecordCase
+abbrev pub cases : List (Case Decoded)
 cases =
     -- an abort of slot 9 at 0x0102030405060708; what follows a record does not count
     recordCase (0 ∷ 11 ∷ 1 ∷ 5 ∷ 9 ∷ bytes) (Record (call.Abort 9 0x0102030405060708) 13)
@@ -48,6 +44,6 @@ cases =
     ∷ recordCase (0 ∷ 3 ∷ 1 ∷ 255 ∷ 0 ∷ []) Bad
     ∷ []
 
-pub record-cases : map found cases ≡ map expected cases
+pub record-cases : AsExpected cases
 unfolding decodeOf kindOf
 record-cases = refl
