@@ -15,8 +15,14 @@ const ROUNDS: usize = 4_001;
 const FRAMES: u32 = 16_384;
 const GRANULES: u32 = 4_096;
 const SLOT: u64 = 5;
-const SHARE: u64 = 0xC600_0003;
 const AT_ONCE: u64 = 64;
+const PASS: u64 = GRANULES as u64 / AT_ONCE;
+
+// Function numbers.
+const SHARE: u64 = 0xC600_0003;
+const UNSHARE: u64 = 0xC600_0004;
+const RANGE_GUARD_MAP: u64 = 0xC600_000A;
+const RANGE_GUARD_UNMAP: u64 = 0xC600_000B;
 
 /// What is lent to a call.
 #[derive(Clone, Debug, PartialEq)]
@@ -27,26 +33,36 @@ struct Lent {
 }
 
 impl Lent {
-    /// One live guest that was run, with a frame for each granule of its row.
-    fn full_row(shared: fn(u32) -> bool) -> Self {
+    /// One live guest that was run and has enrolled, with this word in each place of its row.
+    fn row_of(word: u32) -> Self {
         let mut lent = Self {
             records: [0; clundip::RECORD_WORDS],
             frames: vec![0; FRAMES as usize],
             map: vec![0; 8 * GRANULES as usize],
         };
-        let slot = SLOT as usize;
         let mut record = plain::FRESH;
         record[plain::RUN] = 1;
-        lent.records[slot * record.len()..][..record.len()].copy_from_slice(&record);
-        let row = &mut lent.map[slot * GRANULES as usize..];
-        for (granule, word) in (0..GRANULES).zip(row) {
+        record[plain::ENROLLED] = 1;
+        lent.records[SLOT as usize * record.len()..][..record.len()].copy_from_slice(&record);
+        lent.row().fill(word);
+        lent
+    }
+
+    /// The same with a frame for each granule of its row.
+    fn full_row(shared: fn(u32) -> bool) -> Self {
+        let mut lent = Self::row_of(plain::VACANT);
+        for granule in 0..GRANULES {
             // An odd factor gives each granule a frame of its own, far from its neighbour's.
             let frame = (granule * 10_007 + 331) % FRAMES;
             let shared = u32::from(shared(granule));
-            *word = (0x4000_0000 << shared) + frame;
+            lent.row()[granule as usize] = (0x4000_0000 << shared) + frame;
             lent.frames[frame as usize] = ((SLOT as u32 + 1) << 24) + (shared << 16) + granule;
         }
         lent
+    }
+
+    fn row(&mut self) -> &mut [u32] {
+        &mut self.map[SLOT as usize * GRANULES as usize..][..GRANULES as usize]
     }
 
     /// As the calls take it.
@@ -61,41 +77,41 @@ impl Lent {
     }
 }
 
-/// The call of this number in a pass.
-type Call = fn(&mut Lent, u64) -> [u64; 5];
+/// One call of a pass: the function number where it is a guest's, and which call of the pass.
+type Call = fn(&mut Lent, u64, u64) -> [u64; 5];
 
 #[inline(never)]
-fn library_remove(lent: &mut Lent, _: u64) -> [u64; 5] {
+fn library_remove(lent: &mut Lent, _: u64, _: u64) -> [u64; 5] {
     let (records, frames, map) = lent.parts();
     let answer = clundip::remove(records, frames, map, black_box(SLOT));
     [answer.verdict, answer.v0, answer.v1, answer.v2, answer.v3]
 }
 
 #[inline(never)]
-fn plain_remove(lent: &mut Lent, _: u64) -> [u64; 5] {
+fn plain_remove(lent: &mut Lent, _: u64, _: u64) -> [u64; 5] {
     let (records, frames, map) = lent.parts();
     let answer = plain::remove(records, frames, map, black_box(SLOT));
     [answer.verdict, answer.v0, answer.v1, answer.v2, answer.v3]
 }
 
 #[inline(never)]
-fn library_share(lent: &mut Lent, number: u64) -> [u64; 5] {
+fn library_hypercall(lent: &mut Lent, function: u64, number: u64) -> [u64; 5] {
     let (records, frames, map) = lent.parts();
-    let registers = black_box(share_registers(number));
+    let registers = black_box(range_registers(function, number));
     let answer = clundip::hypercall(records, frames, map, black_box(SLOT), registers);
     [answer.verdict, answer.v0, answer.v1, answer.v2, answer.v3]
 }
 
 #[inline(never)]
-fn plain_share(lent: &mut Lent, number: u64) -> [u64; 5] {
+fn plain_hypercall(lent: &mut Lent, function: u64, number: u64) -> [u64; 5] {
     let (records, frames, map) = lent.parts();
-    let registers = black_box(share_registers(number));
+    let registers = black_box(range_registers(function, number));
     let answer = plain::hypercall(records, frames, map, black_box(SLOT), registers);
     [answer.verdict, answer.v0, answer.v1, answer.v2, answer.v3]
 }
 
-fn share_registers(number: u64) -> [u64; 4] {
-    [SHARE, 4096 * AT_ONCE * number, AT_ONCE, 0]
+fn range_registers(function: u64, number: u64) -> [u64; 4] {
+    [function, 4096 * AT_ONCE * number, AT_ONCE, 0]
 }
 
 /// Half of the granules, in no order.
@@ -107,7 +123,9 @@ fn mixed(granule: u32) -> bool {
 /// One kind of work: the calls of a pass on each side, and what each call answers.
 struct Work {
     name: &'static str,
+    aim: f64,
     calls: u64,
+    function: u64,
     before: Lent,
     answer: [u64; 5],
     library: Call,
@@ -115,25 +133,47 @@ struct Work {
 }
 
 impl Work {
-    fn all() -> [Self; 2] {
+    fn all() -> [Self; 5] {
         [
             Self {
                 name: "remove, row of 4,096 granules",
+                aim: 1.3,
                 calls: 1,
+                function: 0,
                 before: Lent::full_row(mixed),
                 answer: [0, GRANULES.into(), 0, 0, 0],
                 library: library_remove,
                 plain: plain_remove,
             },
-            Self {
-                name: "share of 64 granules",
-                calls: u64::from(GRANULES) / AT_ONCE,
-                before: Lent::full_row(|_| false),
-                answer: [10, 0, AT_ONCE, 0, 0],
-                library: library_share,
-                plain: plain_share,
-            },
+            Self::range("share of 64 granules", 1.1, SHARE, Lent::full_row(|_| false)),
+            Self::range("unshare of 64 granules", 1.1, UNSHARE, Lent::full_row(|_| true)),
+            Self::range(
+                "range guard map of 64",
+                1.05,
+                RANGE_GUARD_MAP,
+                Lent::row_of(plain::VACANT),
+            ),
+            Self::range(
+                "range guard unmap of 64",
+                1.05,
+                RANGE_GUARD_UNMAP,
+                Lent::row_of(plain::GUARDED),
+            ),
         ]
+    }
+
+    /// A whole row by calls on 64 granules.
+    fn range(name: &'static str, aim: f64, function: u64, before: Lent) -> Self {
+        Self {
+            name,
+            aim,
+            calls: PASS,
+            function,
+            before,
+            answer: [10, 0, AT_ONCE, 0, 0],
+            library: library_hypercall,
+            plain: plain_hypercall,
+        }
     }
 
     /// Makes a pass once on each side, and compares answers and words.
@@ -141,7 +181,7 @@ impl Work {
         let [library, plain] = [self.library, self.plain].map(|call| {
             let mut lent = self.before.clone();
             let answers: Vec<_> = (0..self.calls)
-                .map(|number| call(&mut lent, number))
+                .map(|number| call(&mut lent, self.function, number))
                 .collect();
             (answers, lent)
         });
@@ -168,20 +208,20 @@ impl Work {
                     false => (self.plain, &mut times.plain),
                 };
                 lent.fill(&self.before);
-                times.push(pass(black_box(call), &mut lent, self.calls));
+                times.push(self.pass(black_box(call), &mut lent));
             }
         }
         times
     }
-}
 
-/// The time of one call in a pass of so many, in ns.
-fn pass(call: Call, lent: &mut Lent, calls: u64) -> f64 {
-    let start = Instant::now();
-    for number in 0..calls {
-        black_box(call(black_box(lent), number));
+    /// The time of one call in a pass, in ns.
+    fn pass(&self, call: Call, lent: &mut Lent) -> f64 {
+        let start = Instant::now();
+        for number in 0..self.calls {
+            black_box(call(black_box(lent), self.function, number));
+        }
+        start.elapsed().as_nanos() as f64 / self.calls as f64
     }
-    start.elapsed().as_nanos() as f64 / calls as f64
 }
 
 fn main() -> ExitCode {
@@ -194,9 +234,9 @@ fn main() -> ExitCode {
     }
     figures::print_heading("ns per call");
     for work in &works {
-        figures::print_times(work.name, ["library", "plain Rust"], &work.time(), 1.3);
+        figures::print_times(work.name, ["library", "plain Rust"], &work.time(), work.aim);
     }
-    println!("Tables filled again before each call (share: pass of 64 calls), outside the time;");
+    println!("Tables filled again before each removal and each pass of 64 calls, outside the time;");
     println!("both built for release. {ROUNDS} rounds, the order of the two changed each time.");
     ExitCode::SUCCESS
 }

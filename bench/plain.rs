@@ -9,7 +9,7 @@ const RECORD: usize = 6;
 type Record = [u64; RECORD];
 const LIVE: usize = 0;
 pub const RUN: usize = 1;
-const ENROLLED: usize = 2;
+pub const ENROLLED: usize = 2;
 const BITMAPS: usize = 3;
 const VENDOR_HYP: usize = 5;
 pub const FRESH: Record = {
@@ -31,10 +31,10 @@ const GRANULE_BYTES: u64 = 4_096;
 const RANGE_LIMIT: u64 = 64;
 
 // Map words. Private and shared have the frame in the low 16 bits.
-const VACANT: u32 = 0;
+pub const VACANT: u32 = 0;
 const PRIVATE: u32 = 0x4000_0000;
 const SHARED: u32 = 0x8000_0000;
-const GUARDED: u32 = 0xC000_0000;
+pub const GUARDED: u32 = 0xC000_0000;
 
 // Frame words. An owned frame has slot + 1, then 0 or 1 for shared, then the granule.
 const HOST: u32 = 0;
