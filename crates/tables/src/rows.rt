@@ -21,7 +21,7 @@ pub fn row_bounds(words: usize, slot: u64) -> RowBounds
     ensures { λ r. ⌜ r ≡ boundsOf words slot ⌝ }
 {
     if slot < 8 {
-        let width = words / 8;
+        let width = row_width(words);
         let start = (slot as usize) * width;
         RowBounds {
             start,
