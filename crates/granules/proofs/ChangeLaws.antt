@@ -15,28 +15,27 @@ use Rattle.pairs.specs.Pair.{granuleState}
 use Rattle.pairs.specs.declared.pairs.GranuleState.{GranuleState}
 use Rattle.pairs.specs.declared.pairs.GranuleState.the-variants as granule-state
 use Rattle.pairs.proofs.Found.{granule-says, granule-names}
-use Rattle.granules.specs.Kind.{isOf, bare, changeOf}
+use Rattle.granules.specs.Kind.{isOf, leaveOther, writeFramed, bare, changeOf}
 use Rattle.granules.specs.declared.kinds.Kind.{Kind}
 use Rattle.granules.specs.declared.kinds.Kind.the-variants.{Vacant, Private, Shared, Guarded}
 use Rattle.granules.specs.declared.kinds.Operation.{Operation}
-use Rattle.granules.specs.declared.kinds.Change.the-variants.{Damaged, Refused, WithFrame}
 
-no-frame : (m : Kind) (f : ℕ) → WithFrame f ≡ bare m → ⊥
+no-frame : (m : Kind) (f : ℕ) → writeFramed f ≡ bare m → ⊥
 no-frame Vacant f e = let z : _≡_ {A = ℕ} 0 1 = cc in omega arith
 no-frame Private f e = let z : _≡_ {A = ℕ} 0 1 = cc in omega arith
 no-frame Shared f e = let z : _≡_ {A = ℕ} 0 1 = cc in omega arith
 no-frame Guarded f e = let z : _≡_ {A = ℕ} 0 1 = cc in omega arith
 
-not-bare : (b : Bool) (m : Kind) (f : ℕ) → WithFrame f ≡ cond b (bare m) Refused → ⊥
+not-bare : (b : Bool) (m : Kind) (f : ℕ) → writeFramed f ≡ cond b (bare m) leaveOther → ⊥
 not-bare true m f e = no-frame m f e
 not-bare false m f e = let z : _≡_ {A = ℕ} 0 1 = cc in omega arith
 
-same-frame : (b : Bool) (f h : ℕ) → WithFrame f ≡ cond b (WithFrame h) Refused → f ≡ h
+same-frame : (b : Bool) (f h : ℕ) → writeFramed f ≡ cond b (writeFramed h) leaveOther → f ≡ h
 same-frame true f h e = cc
 same-frame false f h e = cc
 
 -- the frame that is written is the granule's
-pub with-frame : (o : Operation) (k : GranuleState) (f : ℕ) → WithFrame f ≡ changeOf o k → (s : Bool) × (k ≡ granule-state.Frame s f)
+pub with-frame : (o : Operation) (k : GranuleState) (f : ℕ) → writeFramed f ≡ changeOf o k → (s : Bool) × (k ≡ granule-state.Frame s f)
 unfolding changeOf
 with-frame o granule-state.Vacant f e = absurd (not-bare (isOf (o .needs) granule-state.Vacant) (o .makes) f e)
 with-frame o (granule-state.Frame s h) f e = (s, rw (same-frame (isOf (o .needs) (granule-state.Frame s h)) f h e))
@@ -53,19 +52,30 @@ pub record Writable (frames : List ℕ) (v g w f : ℕ) : Type 0 where
   pub slot : v < 8
   pub granule : g < 2 ^ 16
 
-pub writable : (o : Operation) (frames : List ℕ) (v g w : ℕ) (k : GranuleState) → k ≡ granuleState frames v g (mapWordOf w) → (f : ℕ) → WithFrame f ≡ changeOf o k
+-- what holds of a granule that has frame f
+pub record Framed (frames : List ℕ) (v g w : ℕ) (s : Bool) (f : ℕ) : Type 0 where
+  pub word : mapWordOf w ≡ map-word.Frame s f
+  pub owner : frameWordOf (getD frames f 0) ≡ frame-word.Owned v s g
+  pub inside : f < length frames
+
+pub framed : (frames : List ℕ) (v g w : ℕ) (s : Bool) (f : ℕ) → granule-state.Frame s f ≡ granuleState frames v g (mapWordOf w) → Framed frames v g w s f
+framed frames v g w s f e =
+    let says : mapWordOf w ≡ map-word.Frame s f = granule-says frames v g (mapWordOf w) (granule-state.Frame s f) e (λ q. let z : _≡_ {A = ℕ} 0 1 = cc in omega arith) in
+    let names = granule-names frames v g s f (e ∙ rw says) in
+    record { word = says; owner = names .1; inside = names .0 }
+
+pub writable : (o : Operation) (frames : List ℕ) (v g w : ℕ) (k : GranuleState) → k ≡ granuleState frames v g (mapWordOf w) → (f : ℕ) → writeFramed f ≡ changeOf o k
     → Writable frames v g w f
 writable o frames v g w k e f d =
     let p = with-frame o k f d in
-    let says : mapWordOf w ≡ map-word.Frame (p .0) f = rw (p .1) at (granule-says frames v g (mapWordOf w) k e (λ q. let z : _≡_ {A = ℕ} 0 1 = cc in omega arith)) in
-    let names = granule-names frames v g (p .0) f (sym (p .1) ∙ e ∙ rw says) in
-    let fits = rw (names .1) at (frame-fits (getD frames f 0)) in
+    let h = framed frames v g w (p .0) f (sym (p .1) ∙ e) in
+    let fits = rw (h .owner) at (frame-fits (getD frames f 0)) in
     record {
       sharing = p .0;
-      word = says;
-      owner = names .1;
-      inside = names .0;
-      frame = rw says at (map-fits w);
+      word = h .word;
+      owner = h .owner;
+      inside = h .inside;
+      frame = rw (h .word) at (map-fits w);
       slot = fits .0;
       granule = fits .1;
     }

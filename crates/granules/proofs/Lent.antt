@@ -18,12 +18,10 @@ use Rattle.tables.specs.Row.{bounds, boundsOf}
 use Rattle.pairs.specs.Pair.{granuleState}
 use Rattle.tables.specs.declared.rows.RowBounds.{RowBounds}
 use Rattle.tables.proofs.RowLaws.{row-inside, bounds-slot}
-use Rattle.granules.specs.Kind.{wordWith, changeOf}
+use Rattle.granules.specs.Kind.{wordWith, GranuleChange, leaveDamaged, leaveOther, writeBare, writeFramed, changeOf}
 use Rattle.granules.specs.Step.{Place, place, Refusal, notDone, written, stepFrom, rowStep, tableStep}
 use Rattle.granules.specs.declared.kinds.Kind.{Kind}
 use Rattle.granules.specs.declared.kinds.Operation.{Operation}
-use Rattle.granules.specs.declared.kinds.Change.{Change}
-use Rattle.granules.specs.declared.kinds.Change.the-variants.{Damaged, Refused, Bare, WithFrame}
 
 set-append-add : (xs ys : List ℕ) (n a : ℕ) → set (xs ++ ys) (length xs + n) a ≡ xs ++ set ys n a
 set-append-add [] ys n a = rw zero-add
@@ -38,12 +36,12 @@ words-after (took t) = length (rowAt t)
 words-after (refuses r) = 0
 
 -- a step that is taken keeps the number of words
-written-length : (m : Kind) (v i : ℕ) (map frames : List ℕ) (g : ℕ) (d : Change) (t : Place) → written m v i map frames g d ≡ took t → length (rowAt t) ≡ length map
+written-length : (m : Kind) (v i : ℕ) (map frames : List ℕ) (g : ℕ) (d : GranuleChange) (t : Place) → written m v i map frames g d ≡ took t → length (rowAt t) ≡ length map
 unfolding words-after
-written-length m v i map frames g Damaged t e = let z : _≡_ {A = ℕ} 0 1 = cc in absurd (omega arith)
-written-length m v i map frames g Refused t e = let z : _≡_ {A = ℕ} 0 1 = cc in absurd (omega arith)
-written-length m v i map frames g (Bare w) t e = sym (ap words-after e) ∙ length-set map i w
-written-length m v i map frames g (WithFrame f) t e = sym (ap words-after e) ∙ length-set map i (mapBits (wordWith m f))
+written-length m v i map frames g leaveDamaged t e = let z : _≡_ {A = ℕ} 0 1 = cc in absurd (omega arith)
+written-length m v i map frames g leaveOther t e = let z : _≡_ {A = ℕ} 0 1 = cc in absurd (omega arith)
+written-length m v i map frames g (writeBare w) t e = sym (ap words-after e) ∙ length-set map i w
+written-length m v i map frames g (writeFramed f) t e = sym (ap words-after e) ∙ length-set map i (mapBits (wordWith m f))
 
 -- a step that is taken is below the width
 pub taken : (c : Bool) (o : Step Place Refusal) (t : Place) → cond c o (refuses notDone) ≡ took t → (c ≡ true) × (o ≡ took t)
@@ -72,11 +70,11 @@ module _ (o : Operation) (v w : ℕ) (pre post : List ℕ) (at : length pre ≡ 
     put y = rw (← at) (set-append-add pre (row ++ post) g y ∙ ap {B = List ℕ} (λ l. pre ++ l) (set-append-left row post g y (omega arith)))
 
     -- a change written in the table is the one written in the row
-    written-like : (d : Change) → written (o .makes) v (v * w + g) (pre ++ (row ++ post)) frames g d ≡ mapStep embed (λ r. r) (written (o .makes) v g row frames g d)
-    written-like Damaged = refl
-    written-like Refused = refl
-    written-like (Bare y) = rw (put y)
-    written-like (WithFrame f) = rw (put (mapBits (wordWith (o .makes) f)))
+    written-like : (d : GranuleChange) → written (o .makes) v (v * w + g) (pre ++ (row ++ post)) frames g d ≡ mapStep embed (λ r. r) (written (o .makes) v g row frames g d)
+    written-like leaveDamaged = refl
+    written-like leaveOther = refl
+    written-like (writeBare y) = rw (put y)
+    written-like (writeFramed f) = rw (put (mapBits (wordWith (o .makes) f)))
 
   like-on : (row frames : List ℕ) (g : ℕ) → length row ≡ w → (c : Bool) → ltb g w ≡ c
       → cond c (written (o .makes) v (v * w + g) (pre ++ (row ++ post)) frames g (changeOf o (granuleState frames v g (mapWordOf (getD (pre ++ (row ++ post)) (v * w + g) 0))))) (refuses notDone)

@@ -1,3 +1,4 @@
 pub mod ChangeLaws
+pub mod KindLaws
 pub mod StepLaws
 pub mod Lent

@@ -8,11 +8,11 @@ use Rattle.words.specs.declared.frame_word.FrameWord.{FrameWord}
 use Rattle.words.specs.declared.frame_word.FrameWord.the-variants as frame-word
 use Rattle.pairs.specs.declared.pairs.GranuleState.{GranuleState}
 use Rattle.pairs.specs.declared.pairs.GranuleState.the-variants as granule-state
+use Rattle.pairs.specs.declared.pairs.Comparison.{Comparison}
+use Rattle.pairs.specs.declared.pairs.Comparison.the-variants as comparison
 use Rattle.granules.specs.declared.kinds.Kind.{Kind}
 use Rattle.granules.specs.declared.kinds.Kind.the-variants.{Vacant, Private, Shared, Guarded}
 use Rattle.granules.specs.declared.kinds.Operation.{Operation}
-use Rattle.granules.specs.declared.kinds.Change.{Change}
-use Rattle.granules.specs.declared.kinds.Change.the-variants.{Damaged, Refused, Bare, WithFrame}
 
 abbrev pub operation : Kind → Kind → Operation
 operation needs makes = record { needs = needs; makes = makes }
@@ -50,6 +50,35 @@ isOf Private granule-state.Guarded = false
 isOf Shared granule-state.Guarded = false
 isOf Guarded granule-state.Guarded = true
 
+-- a granule compared with one of a kind, and what it has where it is of that kind
+abbrev pub has : GranuleState → Comparison
+has granule-state.Vacant = comparison.Bare
+has (granule-state.Frame s f) = comparison.Frame f
+has granule-state.Guarded = comparison.Bare
+has granule-state.Damaged = comparison.Differs
+
+abbrev pub compared : Kind → GranuleState → Comparison
+compared k s = cond (isOf k s) (has s) comparison.Differs
+
+-- whether a granule of a kind has a frame, and whether that is shared; and whether one without a frame is guarded
+abbrev pub hasFrame : Kind → Bool
+hasFrame Vacant = false
+hasFrame Private = true
+hasFrame Shared = true
+hasFrame Guarded = false
+
+abbrev pub isShared : Kind → Bool
+isShared Vacant = false
+isShared Private = false
+isShared Shared = true
+isShared Guarded = false
+
+abbrev pub isGuarded : Kind → Bool
+isGuarded Vacant = false
+isGuarded Private = false
+isGuarded Shared = false
+isGuarded Guarded = true
+
 -- the map word of a granule with frame f that becomes of a kind
 abbrev pub wordWith : Kind → ℕ → MapWord
 wordWith Vacant f = map-word.Vacant
@@ -64,16 +93,23 @@ frameThen Private v g = frame-word.Owned v false g
 frameThen Shared v g = frame-word.Owned v true g
 frameThen Guarded v g = frame-word.Waiting
 
--- a granule without a frame becomes vacant or guarded; it can't become private or shared
-abbrev pub bare : Kind → Change
-bare Vacant = Bare (mapBits map-word.Vacant)
-bare Private = Refused
-bare Shared = Refused
-bare Guarded = Bare (mapBits map-word.Guarded)
+-- what an operation has to write for a granule: nothing, since it is damaged, or is not of the kind that is needed; this map word, where
+-- it has no frame; a map word and the word of this frame
+pub data GranuleChange : Type 0 where
+  leaveDamaged : GranuleChange
+  leaveOther : GranuleChange
+  writeBare : ℕ → GranuleChange
+  writeFramed : ℕ → GranuleChange
 
--- what an operation has to write for a granule
-unfoldable pub changeOf : Operation → GranuleState → Change
-changeOf o granule-state.Vacant = cond (isOf (o .needs) granule-state.Vacant) (bare (o .makes)) Refused
-changeOf o (granule-state.Frame s f) = cond (isOf (o .needs) (granule-state.Frame s f)) (WithFrame f) Refused
-changeOf o granule-state.Guarded = cond (isOf (o .needs) granule-state.Guarded) (bare (o .makes)) Refused
-changeOf o granule-state.Damaged = Damaged
+-- a granule without a frame becomes vacant or guarded; it can't become private or shared
+abbrev pub bare : Kind → GranuleChange
+bare Vacant = writeBare (mapBits map-word.Vacant)
+bare Private = leaveOther
+bare Shared = leaveOther
+bare Guarded = writeBare (mapBits map-word.Guarded)
+
+unfoldable pub changeOf : Operation → GranuleState → GranuleChange
+changeOf o granule-state.Vacant = cond (isOf (o .needs) granule-state.Vacant) (bare (o .makes)) leaveOther
+changeOf o (granule-state.Frame s f) = cond (isOf (o .needs) (granule-state.Frame s f)) (writeFramed f) leaveOther
+changeOf o granule-state.Guarded = cond (isOf (o .needs) granule-state.Guarded) (bare (o .makes)) leaveOther
+changeOf o granule-state.Damaged = leaveDamaged

@@ -8,12 +8,11 @@ use Rattle.runs.specs.Run.{Step, took, refuses, Stop, complete, refused, End, e
 use Rattle.words.specs.MapWord.{mapBits, mapWordOf}
 use Rattle.words.specs.FrameWord.{frameBits}
 use Rattle.tables.specs.Length.{widthOf}
-use Rattle.pairs.specs.Pair.{granuleState}
-use Rattle.granules.specs.Kind.{wordWith, frameThen, changeOf}
+use Rattle.pairs.specs.Pair.{granuleState, granuleUndamaged}
+use Rattle.pairs.specs.declared.pairs.GranuleState.{GranuleState}
+use Rattle.granules.specs.Kind.{wordWith, frameThen, GranuleChange, leaveDamaged, leaveOther, writeBare, writeFramed, changeOf}
 use Rattle.granules.specs.declared.kinds.Kind.{Kind}
 use Rattle.granules.specs.declared.kinds.Operation.{Operation}
-use Rattle.granules.specs.declared.kinds.Change.{Change}
-use Rattle.granules.specs.declared.kinds.Change.the-variants.{Damaged, Refused, Bare, WithFrame}
 use Rattle.granules.specs.declared.step.Outcome.{Outcome}
 use Rattle.granules.specs.declared.step.Outcome.the-variants as outcome
 
@@ -27,11 +26,11 @@ pub data Refusal : Type 0 where
   notDone : Refusal
 
 -- a change of granule g of slot v, whose map word is the i-th, written
-abbrev pub written : Kind → ℕ → ℕ → List ℕ → List ℕ → ℕ → Change → Step Place Refusal
-written makes v i map frames g Damaged = refuses isDamaged
-written makes v i map frames g Refused = refuses notDone
-written makes v i map frames g (Bare w) = took (place (set map i w) frames (suc g))
-written makes v i map frames g (WithFrame f) =
+abbrev pub written : Kind → ℕ → ℕ → List ℕ → List ℕ → ℕ → GranuleChange → Step Place Refusal
+written makes v i map frames g leaveDamaged = refuses isDamaged
+written makes v i map frames g leaveOther = refuses notDone
+written makes v i map frames g (writeBare w) = took (place (set map i w) frames (suc g))
+written makes v i map frames g (writeFramed f) =
     took (place (set map i (mapBits (wordWith makes f))) (set frames f (frameBits (frameThen makes v g))) (suc g))
 
 -- one granule of slot v, whose row is the `width` map words from the a-th on:
@@ -49,6 +48,10 @@ rowStep o v width = stepFrom o v 0 width
 -- the same in the whole map table
 abbrev pub tableStep : Operation → ℕ → Place → Step Place Refusal
 tableStep o v (place map frames g) = stepFrom o v (v * widthOf (length map)) (widthOf (length map)) (place map frames g)
+
+-- how a step ends at a granule that it leaves
+abbrev pub refusalOf : GranuleState → Outcome
+refusalOf s = cond (granuleUndamaged s) outcome.Refused outcome.Damaged
 
 -- what the code's outcome says
 abbrev pub stopBy : Outcome → Stop Refusal

@@ -3,7 +3,6 @@
 mod kinds;
 mod step;
 
-pub use kinds::Change;
 pub use kinds::Kind;
 pub use kinds::Operation;
 pub use step::Outcome;

@@ -1,4 +1,5 @@
 pub mod PairLaws
 pub mod Found
+pub mod ComparisonLaws
 pub mod Locality
 pub mod Cases

@@ -1,7 +1,7 @@
 -- Document 01, "Tables": "A word that names a partner (a map word its frame, a frame word its owner's granule) must be named back by it,
 -- with the same shared or private; else both are damaged, to a call that looks from that word to its partner. What any third word
 -- names doesn't count."
-use mathlib.Core.Bool.{Bool, true, false, cond, _&&_}
+use mathlib.Core.Bool.{Bool, true, false, cond, _&&_, Bool·beq}
 use mathlib.Core.List.{List}
 use Prim.Native.Nat.{ℕ}
 use lib.Dec.{ltb}
@@ -16,6 +16,8 @@ use Rattle.tables.specs.Length.{widthOf}
 use Rattle.tables.specs.Row.{wordAt}
 use Rattle.pairs.specs.declared.pairs.GranuleState.{GranuleState}
 use Rattle.pairs.specs.declared.pairs.GranuleState.the-variants as granule-state
+use Rattle.pairs.specs.declared.pairs.Comparison.{Comparison}
+use Rattle.pairs.specs.declared.pairs.Comparison.the-variants as comparison
 use Rattle.pairs.specs.declared.pairs.FrameState.{FrameState}
 use Rattle.pairs.specs.declared.pairs.FrameState.the-variants as frame-state
 
@@ -56,8 +58,27 @@ granuleUndamaged (granule-state.Frame s f) = true
 granuleUndamaged granule-state.Guarded = true
 granuleUndamaged granule-state.Damaged = false
 
+abbrev pub granuleVacant : GranuleState → Bool
+granuleVacant granule-state.Vacant = true
+granuleVacant (granule-state.Frame s f) = false
+granuleVacant granule-state.Guarded = false
+granuleVacant granule-state.Damaged = false
+
 abbrev pub frameUndamaged : FrameState → Bool
 frameUndamaged frame-state.Host = true
 frameUndamaged frame-state.Waiting = true
 frameUndamaged (frame-state.Owned v s g) = true
 frameUndamaged frame-state.Damaged = false
+
+abbrev pub frameHosts : FrameState → Bool
+frameHosts frame-state.Host = true
+frameHosts frame-state.Waiting = false
+frameHosts (frame-state.Owned v s g) = false
+frameHosts frame-state.Damaged = false
+
+-- a granule compared with one that is private or shared, as told
+abbrev pub frameCompared : Bool → GranuleState → Comparison
+frameCompared s granule-state.Vacant = comparison.Differs
+frameCompared s (granule-state.Frame t f) = cond (Bool·beq s t) (comparison.Frame f) comparison.Differs
+frameCompared s granule-state.Guarded = comparison.Differs
+frameCompared s granule-state.Damaged = comparison.Differs

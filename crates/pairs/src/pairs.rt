@@ -2,7 +2,7 @@ ghost use mathlib.Core.Path.{_≡_};
 ghost use Prim.Native.Nat.{_<_};
 ghost use Rattle.words.specs.MapWord.{mapWordOf};
 ghost use Rattle.words.specs.declared.frame_word.FrameWord.the-variants.{Owned as OwnedWord};
-ghost use Rattle.pairs.specs.Pair.{granuleState, pairAt, frameState, pairOf};
+ghost use Rattle.pairs.specs.Pair.{granuleState, granuleUndamaged, granuleVacant, frameCompared, pairAt, frameState, frameUndamaged, frameHosts, pairOf};
 use tables::row;
 use words::FrameWord;
 use words::Granule;
@@ -16,6 +16,46 @@ pub enum GranuleState {
     Damaged,
 }
 
+impl GranuleState {
+    pub fn is_undamaged(self) -> bool
+        ensures { λ r. ⌜ r ≡ granuleUndamaged self ⌝ }
+    {
+        match self {
+            GranuleState::Vacant => true,
+            GranuleState::Frame {
+                shared: _,
+                frame: _,
+            } => true,
+            GranuleState::Guarded => true,
+            GranuleState::Damaged => false,
+        }
+    }
+
+    pub fn is_vacant(self) -> bool
+        ensures { λ r. ⌜ r ≡ granuleVacant self ⌝ }
+    {
+        match self {
+            GranuleState::Vacant => true,
+            GranuleState::Frame {
+                shared: _,
+                frame: _,
+            } => false,
+            GranuleState::Guarded => false,
+            GranuleState::Damaged => false,
+        }
+    }
+}
+
+// How a granule compares with one of some kind.
+pub enum Comparison {
+    // It is of another kind, or damaged.
+    Differs,
+    // It is of the kind, and has no frame.
+    Bare,
+    // It is of the kind, and has this frame.
+    Frame(usize),
+}
+
 // Whose a frame is. Damaged: its frame word is, or is not named back.
 pub enum FrameState {
     Host,
@@ -26,6 +66,39 @@ pub enum FrameState {
         granule: usize,
     },
     Damaged,
+}
+
+impl FrameState {
+    pub fn is_undamaged(self) -> bool
+        ensures { λ r. ⌜ r ≡ frameUndamaged self ⌝ }
+    {
+        match self {
+            FrameState::Host => true,
+            FrameState::Waiting => true,
+            FrameState::Owned {
+                slot: _,
+                shared: _,
+                granule: _,
+            } => true,
+            FrameState::Damaged => false,
+        }
+    }
+
+    // Whether the frame is the host's.
+    pub fn is_host(self) -> bool
+        ensures { λ r. ⌜ r ≡ frameHosts self ⌝ }
+    {
+        match self {
+            FrameState::Host => true,
+            FrameState::Waiting => false,
+            FrameState::Owned {
+                slot: _,
+                shared: _,
+                granule: _,
+            } => false,
+            FrameState::Damaged => false,
+        }
+    }
 }
 
 // What a granule of a slot holds, by its map word and the word of the frame that this names.
@@ -46,6 +119,28 @@ pub fn granule_state(frames: &[u32], slot: usize, granule: Granule, word: u32) -
             GranuleState::Damaged
         }
     }
+}
+
+// The pair test of a granule that is expected to be private or shared, as told: its two words are compared with those of such a granule,
+// and not taken apart further.
+pub fn compare_frame(
+    frames: &[u32],
+    slot: usize,
+    granule: Granule,
+    word: u32,
+    shared: bool,
+) -> Comparison
+    ensures { λ r. ⌜ r ≡ frameCompared shared (granuleState (now (frames .entry)) slot (granule .0) (mapWordOf word)) ⌝ }
+{
+    let number = granule.0 as usize;
+    let frame = MapWord::frame_in(word, shared);
+    if MapWord::nameable(frames.len()) <= frame {
+        return Comparison::Differs;
+    }
+    if FrameWord::names(frames[frame], slot, shared, number) {
+        return Comparison::Frame(frame);
+    }
+    Comparison::Differs
 }
 
 // The pair test from the map: what this granule of this slot holds. No granule, no slot: damaged.

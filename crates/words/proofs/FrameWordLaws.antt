@@ -1,8 +1,9 @@
 -- A frame word built and taken apart is what it was built of; one taken apart and not damaged is built again.
-use mathlib.Core.Path.{_≡_, refl, sym, _∙_}
+use mathlib.Core.Path.{_≡_, refl, sym, ap, _∙_}
 use mathlib.Core.Bool.{Bool, true, false, cond, _&&_, Bool·beq}
 use Prim.Native.Nat.{ℕ, _+_, _*_, _-_, _/_, _%_, _<_, _≤_, _^_}
 use native.Mathlib.Omega.{arith}
+use lib.Bits.{bitXor, xor-block, xor-zero-r}
 use lib.Dec.{eqb, leb}
 use mir.Val.{boolByte}
 use borrow.Author.Tests.{eq-eqb, ne-eqb, le-leb, eqb-true, eqb-false, leb-true}
@@ -10,7 +11,8 @@ use Rattle.words.specs.FrameWord.{sharingByte, frameBits, ownedBy, frame
 use Rattle.words.specs.declared.frame_word.FrameWord.{FrameWord}
 use Rattle.words.specs.declared.frame_word.FrameWord.the-variants.{Host, Waiting, Owned, Damaged}
 use Rattle.words.proofs.Booleans.{both-true, beq-true, beq-self, false-unless}
-use Rattle.words.proofs.WordTest.{by-built}
+use Rattle.words.proofs.Packing.{flipped}
+use Rattle.words.proofs.WordTest.{by-built, by-mask}
 
 -- what a word has room for
 abbrev pub FrameFits : FrameWord → Type 0
@@ -143,3 +145,20 @@ module _ (w : ℕ) (n₀ : w ≡ 0 → ⊥) (n₁ : w ≡ 0xFF000000 → ⊥) wh
   unfolding frameWordOf
   owner-named h =
       rw (ne-eqb w 0 n₀, ne-eqb w 0xFF000000 n₁, le-leb 1 (w / 2 ^ 24) (h .0), le-leb (w / 2 ^ 24) 8 (h .1), le-leb (w / 2 ^ 16 % 2 ^ 8) 1 (h .2))
+
+-- the sharing byte's lowest bit changed
+sharing-flipped : (v g : ℕ) (s t : Bool) → g < 2 ^ 16 → bitXor (sharingByte s) 1 ≡ sharingByte t → bitXor (frameBits (Owned v s g)) 0x10000 ≡ frameBits (Owned v t g)
+unfolding frameBits
+sharing-flipped v g s t h e =
+    let few : sharingByte s ≤ 1 = sharing-bit s in
+    let upper = (v + 1) * 2 ^ 8 + sharingByte s in
+    let word : frameBits (Owned v s g) ≡ upper * 2 ^ 16 + g = omega arith in
+    let above : bitXor upper 1 ≡ (v + 1) * 2 ^ 8 + sharingByte t = xor-block 8 (v + 1) 0 (sharingByte s) 1 (omega arith) (omega arith) ∙ rw (xor-zero-r, e) in
+    rw (word, flipped 16 upper g 1 h, above) (omega arith)
+
+pub frame-reshared : (from to : Bool) (w v g : ℕ) → frameWordOf w ≡ Owned v from g → (same : Bool) → Bool·beq from to ≡ same
+    → cond same w (bitXor w 0x10000) ≡ frameBits (Owned v to g)
+frame-reshared from to w v g e =
+    let fit : (v < 8) × (g < 2 ^ 16) = rw e at (frame-fits w) in
+    let built : w ≡ frameBits (Owned v from g) = sym (frame-encode-decode w (λ d. let z : _≡_ {A = ℕ} 0 1 = cc in omega arith)) ∙ ap frameBits e in
+    by-mask (λ s. frameBits (Owned v s g)) 0x10000 (sharing-flipped v g true false (fit .1) refl) (sharing-flipped v g false true (fit .1) refl) from to w built

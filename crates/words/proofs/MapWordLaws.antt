@@ -1,19 +1,19 @@
 -- A map word built and taken apart is what it was built of; one taken apart and not damaged is built again.
-use mathlib.Core.Path.{_≡_, refl, sym}
+use mathlib.Core.Path.{_≡_, refl, sym, ap, _∙_}
 use mathlib.Core.Bool.{Bool, true, false, cond, Bool·beq}
 use mathlib.Core.Logic.{_≢_}
 use Prim.Native.Nat.{ℕ, _+_, _*_, _/_, _%_, _<_, _≤_, _^_}
 use native.Mathlib.Omega.{arith}
-use lib.Bits.{bitOr}
+use lib.Bits.{bitOr, bitXor, xor-self}
 use lib.Dec.{eqb}
 use mir.Val.{boolByte}
 use borrow.Author.Tests.{eq-eqb, ne-eqb, eqb-true, eqb-false}
-use Rattle.words.specs.MapWord.{mapBits, mapWordOf, namesFrame}
+use Rattle.words.specs.MapWord.{mapBits, mapWordOf, namesFrame, bareWord, isBare}
 use Rattle.words.specs.declared.map_word.MapWord.{MapWord}
 use Rattle.words.specs.declared.map_word.MapWord.the-variants.{Vacant, Frame, Guarded, Damaged}
 use Rattle.words.proofs.Booleans.{both-true, beq-true, beq-self, false-unless}
-use Rattle.words.proofs.Packing.{packed}
-use Rattle.words.proofs.WordTest.{by-built}
+use Rattle.words.proofs.Packing.{packed, flipped, flipped-none}
+use Rattle.words.proofs.WordTest.{by-built, by-mask}
 
 -- what a word has room for
 abbrev pub MapFits : MapWord → Type 0
@@ -120,3 +120,60 @@ pub frame-bits : (s : Bool) (f : ℕ) → f < 2 ^ 30 → bitOr ((1 + boolByte s)
 unfolding mapBits
 frame-bits true f h = packed 30 2 f (omega arith) h
 frame-bits false f h = packed 30 1 f (omega arith) h
+
+-- a word that says a frame is the one built for it
+frame-built : (s : Bool) (f w : ℕ) → mapWordOf w ≡ Frame s f → w ≡ mapBits (Frame s f)
+frame-built s f w e = sym (map-encode-decode w (λ d. let z : _≡_ {A = ℕ} 0 1 = cc in omega arith)) ∙ ap mapBits e
+
+-- a word without the bits of kind k is f exactly if it is f with those bits
+without-kind : (k w f : ℕ) → f < 2 ^ 30 → eqb (bitXor w (k * 2 ^ 30)) f ≡ eqb w (k * 2 ^ 30 + f)
+without-kind k w f h = go (eqb w (k * 2 ^ 30 + f)) refl
+  where
+    split : bitXor w (k * 2 ^ 30) ≡ bitXor (w / 2 ^ 30) k * 2 ^ 30 + w % 2 ^ 30
+    split =
+        let whole : w ≡ w / 2 ^ 30 * 2 ^ 30 + w % 2 ^ 30 = omega arith in
+        ap (λ (x : ℕ). bitXor x (k * 2 ^ 30)) whole ∙ flipped 30 (w / 2 ^ 30) (w % 2 ^ 30) k (omega arith)
+
+    go : (b : Bool) → eqb w (k * 2 ^ 30 + f) ≡ b → eqb (bitXor w (k * 2 ^ 30)) f ≡ b
+    go true e = eq-eqb (bitXor w (k * 2 ^ 30)) f (rw (eqb-true w (k * 2 ^ 30 + f) e, flipped 30 k f k h, xor-self) (omega arith))
+    go false e =
+        ne-eqb (bitXor w (k * 2 ^ 30)) f
+        (λ q.
+        let none : bitXor (w / 2 ^ 30) k ≡ 0 = omega (arith, split) in
+        eqb-false w (k * 2 ^ 30 + f) e (omega (arith, split, flipped-none (w / 2 ^ 30) k none)))
+
+pub frame-in : (s : Bool) (w f : ℕ) → f < 2 ^ 16 → eqb (bitXor w ((1 + boolByte s) * 2 ^ 30 % 2 ^ 32)) f ≡ namesFrame s f (mapWordOf w)
+unfolding mapBits
+frame-in true w f h = without-kind 2 w f (omega arith) ∙ sym (names-frame-built true f h w)
+frame-in false w f h = without-kind 1 w f (omega arith) ∙ sym (names-frame-built false f h w)
+
+pub map-reshared : (from to : Bool) (w f : ℕ) → mapWordOf w ≡ Frame from f → (same : Bool) → Bool·beq from to ≡ same
+    → cond same w (bitXor w 0xC0000000) ≡ mapBits (Frame to f)
+unfolding mapBits
+map-reshared from to w f e =
+    let fit : f < 2 ^ 16 = rw e at (map-fits w) in
+    by-mask (λ s. mapBits (Frame s f)) 0xC0000000 (flipped 30 2 f 3 (omega arith)) (flipped 30 1 f 3 (omega arith)) from to w (frame-built from f w e)
+
+-- whether a word says a granule without a frame is one comparison
+pub bare-built : (b : Bool) (w : ℕ) → isBare b (mapWordOf w) ≡ eqb w (mapBits (bareWord b))
+bare-built b = by-built mapBits mapWordOf (isBare b) (bareWord b) (there b) (passes b) (only b) (λ w e. map-encode-decode w (whole b w e))
+  where
+    there : (b : Bool) → mapWordOf (mapBits (bareWord b)) ≡ bareWord b
+    there true = map-decode-encode Guarded tt
+    there false = map-decode-encode Vacant tt
+
+    passes : (b : Bool) → isBare b (bareWord b) ≡ true
+    passes true = refl
+    passes false = refl
+
+    only : (b : Bool) (d : MapWord) → isBare b d ≡ true → d ≡ bareWord b
+    only true Vacant h = cc
+    only false Vacant h = refl
+    only b (Frame s f) h = cc
+    only true Guarded h = refl
+    only false Guarded h = cc
+    only b Damaged h = cc
+
+    whole : (b : Bool) (w : ℕ) → mapWordOf w ≡ bareWord b → mapWordOf w ≡ Damaged → ⊥
+    whole true w e d = let z : _≡_ {A = ℕ} 0 1 = cc in omega arith
+    whole false w e d = let z : _≡_ {A = ℕ} 0 1 = cc in omega arith

@@ -1,7 +1,9 @@
--- A test that only x passes, of a word taken apart, is a comparison with the word built for x.
+-- A test that only x passes, of a word taken apart, is a comparison with the word built for x; and a word built for private or shared is
+-- one `^` away from the other.
 use mathlib.Core.Path.{_≡_, refl, sym, ap, _∙_}
-use mathlib.Core.Bool.{Bool, true, false}
+use mathlib.Core.Bool.{Bool, true, false, cond, Bool·beq}
 use Prim.Native.Nat.{ℕ}
+use lib.Bits.{bitXor}
 use lib.Dec.{eqb}
 use borrow.Author.Tests.{eqb-true, eqb-false}
 
@@ -19,3 +21,10 @@ module _ {D : Type 0} (encode : D → ℕ) (decode : ℕ → D) (test : D → Bo
           let e : decode w ≡ x = ap decode (eqb-true w (encode x) q) ∙ there in
           sym p ∙ ap test e ∙ passes
       go false p false q = refl
+
+module _ (bits : Bool → ℕ) (mask : ℕ) (down : bitXor (bits true) mask ≡ bits false) (up : bitXor (bits false) mask ≡ bits true) where
+  pub by-mask : (from to : Bool) (w : ℕ) → w ≡ bits from → (same : Bool) → Bool·beq from to ≡ same → cond same w (bitXor w mask) ≡ bits to
+  by-mask true true w e same q = rw (← q) e
+  by-mask true false w e same q = rw (← q, e) down
+  by-mask false true w e same q = rw (← q, e) up
+  by-mask false false w e same q = rw (← q) e

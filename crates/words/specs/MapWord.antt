@@ -1,5 +1,5 @@
 -- Document 01, "Tables", "Map word".
-use mathlib.Core.Bool.{Bool, true, false, cond, _&&_, Bool·beq}
+use mathlib.Core.Bool.{Bool, true, false, cond, not, _&&_, Bool·beq}
 use Prim.Native.Nat.{ℕ, _+_, _/_, _%_, _^_}
 use lib.Dec.{eqb}
 use Rattle.words.specs.declared.map_word.MapWord.{MapWord}
@@ -29,3 +29,15 @@ namesFrame s f Vacant = false
 namesFrame s f (Frame t h) = Bool·beq s t && eqb f h
 namesFrame s f Guarded = false
 namesFrame s f Damaged = false
+
+-- what the map word of a granule without a frame says, guarded or vacant as told
+abbrev pub bareWord : Bool → MapWord
+bareWord false = Vacant
+bareWord true = Guarded
+
+-- whether a map word says such a granule
+abbrev pub isBare : Bool → MapWord → Bool
+isBare b Vacant = not b
+isBare b (Frame s f) = false
+isBare b Guarded = b
+isBare b Damaged = false

@@ -1,5 +1,5 @@
 ghost use mathlib.Core.Path.{_≡_};
-ghost use Prim.Native.Nat.{_<_, _^_};
+ghost use Prim.Native.Nat.{ℕ, _<_, _^_};
 ghost use Rattle.words.specs.FrameWord.{frameWordOf, frameBits, namesGranule};
 use crate::fields::low_half;
 
@@ -68,5 +68,15 @@ impl FrameWord {
             return false;
         }
         word == FrameWord::of_owner(slot, shared, granule)
+    }
+
+    // The word of the owner and the granule in this one, which says them as `from` tells, private or shared as `to` tells.
+    pub fn reshared(word: u32, from: bool, to: bool) -> u32
+        ensures { λ r. ⌜ ((v g : ℕ) → frameWordOf word ≡ FrameWord.Owned v from g → r ≡ frameBits (FrameWord.Owned v to g)) ⌝ }
+    {
+        if from == to {
+            return word;
+        }
+        word ^ (1 << 16)
     }
 }

@@ -1,124 +1,119 @@
--- Beyond the row it is refused; else by the change that was found. A frame that is written is in the table, since it was named back.
-use Rattle.granules.specs.declared.kinds.Change.the-variants.{Bare, WithFrame}
-use mathlib.Core.Path.{sym, _∙_}
+-- Beyond the row it is refused. Else by the comparison of the granule with the kind that is needed: what it has is written, or the pair test
+-- says why nothing is.
+use mathlib.Core.Path.{refl, sym, _∙_}
+use mathlib.Core.Bool.{true, false}
 use native.Mathlib.Omega.{arith}
-use Rattle.granules.proofs.StepLaws.{beyond-row, in-row}
-use Rattle.granules.proofs.ChangeLaws.{writable}
+use lib.ListN.{getD}
+use Rattle.words.specs.FrameWord.{frameBits}
+use Rattle.granules.specs.Kind.{isShared}
+use Rattle.granules.proofs.ChangeLaws.{Framed, framed}
+use Rattle.granules.proofs.KindLaws.{frame-of}
+use Rattle.granules.proofs.StepLaws.{beyond-row, differs, bare-left, bare-done, frame-done}
 use borrow.Author.Needs.{needs}
 use Rattle.granules.proofs.step.change_granule.Statement.{statement}
 use Rattle.granules.proofs.step.change_granule.Tie as tie
 
+-- the words of a granule that has a frame
+words : (c : tie.After-frame) → let a = c .before .before .before .before .before .before .before .before .args in
+    Framed (a .frames .now) (a .slot) (a .granule .0) (getD (a .row .now) (a .granule .0) 0) (isShared (a .operation .needs)) (c .frame .given .0 .0)
+words c = framed _ _ _ _ _ _ (sym (frame-of _ _ _ (sym (c .frame .given .1) ∙ c .before .before .compare .ensures)))
+
 returns : tie.Need-returns
 returns c = beyond-row _ _ _ _ _ (c .if1 .taken)
 
-mul-granule-state : tie.Need-mul-granule-state
-mul-granule-state c = search needs
+returns-2 : tie.Need-returns-2
+returns-2 c =
+    let a = c .before .before .before .before .before .before .before .before .before .before .args in
+    bare-left _ _ _ (a .row .now) _ (c .before .before .before .before .before .before .before .if1 .left) _ (c .before .before .before .before .compare .ensures) (c .before .before .enum-told2 .given .1) (sym (c .before .has-frame .ensures) ∙ c .if2 .taken)
 
-slice-read-granule-state : tie.Need-slice-read-granule-state
-slice-read-granule-state c = search needs
+mul-reshared : tie.Need-mul-reshared
+mul-reshared c = omega (arith, words (c .before .before .before .before .before .before) .inside)
 
-granule-state-requires : tie.Need-granule-state-requires
-granule-state-requires c κs = search needs
-
-change-requires : tie.Need-change-requires
-change-requires c κs = search needs
-
-enum-told : tie.Need-enum-told
-enum-told c = search needs
-
-enum-told-2 : tie.Need-enum-told-2
-enum-told-2 c = search needs
-
-enum-known-word : tie.Need-enum-known-word
-enum-known-word c = search needs
-
-mul-row : tie.Need-mul-row
-mul-row c = search needs
-
-slice-write-row : tie.Need-slice-write-row
-slice-write-row c = search needs
-
-enum-known-frame : tie.Need-enum-known-frame
-enum-known-frame c = search needs
-
-map-word-requires : tie.Need-map-word-requires
-map-word-requires c κs = (writable _ _ _ _ _ _ (c .before .before .before .before .granule-state .ensures) _ (sym (c .before .frame .given .1) ∙ c .before .before .before .change .ensures)) .frame
-
-mul-row-2 : tie.Need-mul-row-2
-mul-row-2 c = search needs
-
-slice-write-row-2 : tie.Need-slice-write-row-2
-slice-write-row-2 c = search needs
-
-frame-word-requires : tie.Need-frame-word-requires
-frame-word-requires c κs = let w = writable _ _ _ _ _ _ (c .before .before .before .before .before .granule-state .ensures) _ (sym (c .before .before .frame .given .1) ∙ c .before .before .before .before .change .ensures) in (w .slot, w .granule)
+slice-read-reshared : tie.Need-slice-read-reshared
+slice-read-reshared c = words (c .before .before .before .before .before .before .before) .inside
 
 mul-frames : tie.Need-mul-frames
-mul-frames c = omega (arith, (writable _ _ _ _ _ _ (c .before .before .before .before .before .before .granule-state .ensures) _ (sym (c .before .before .before .frame .given .1) ∙ c .before .before .before .before .before .change .ensures)) .inside)
+mul-frames c = omega (arith, words (c .before .before .before .before .before .before .before .before) .inside)
 
 slice-write-frames : tie.Need-slice-write-frames
-slice-write-frames c = (writable _ _ _ _ _ _ (c .before .before .before .before .before .before .granule-state .ensures) _ (sym (c .before .before .before .frame .given .1) ∙ c .before .before .before .before .before .change .ensures)) .inside
-
-same-length : tie.Need-same-length
-same-length c = search needs
-
-returns-2 : tie.Need-returns-2
-returns-2 c = in-row _ _ _ _ _ (c .before .before .before .before .before .before .if1 .left) _ (c .before .before .before .granule-state .ensures) _ _ (c .before .before .change .ensures) (c .enum-told .given .1)
-
-same-length-2 : tie.Need-same-length-2
-same-length-2 c = search needs
+slice-write-frames c = words (c .before .before .before .before .before .before .before .before) .inside
 
 returns-3 : tie.Need-returns-3
-returns-3 c = in-row _ _ _ _ _ (c .before .before .before .before .before .before .if1 .left) _ (c .before .before .before .granule-state .ensures) _ _ (c .before .before .change .ensures) (c .enum-told2 .given .1)
+returns-3 c =
+    let a = c .before .before .before .before .before .before .before .before .before .before .before .before .before .before .before .before .args in
+    let w = words (c .before .before .before .before .before .before .before .before) in
+    frame-done _ _ _ (a .row .now) _ (c .before .before .before .before .before .before .before .before .before .before .before .before .before .if1 .left) _ (c .before .before .before .before .before .before .before .before .before .before .compare .ensures) _ (c .before .before .before .before .before .before .before .before .frame .given .1) true (sym (c .before .before .before .before .before .before .has-frame2 .ensures) ∙ c .before .before .before .before .before .if3 .taken) _ _
+    (rw (c .before .before .before .is-shared2 .ensures) at (c .before .before .reshared .ensures (c .before .before .before .before .before .before .before .before .frame .given .0 .0) (rw (c .before .before .before .before .is-shared .ensures) (w .word))))
+    (rw (c .before .before .before .is-shared2 .ensures) at (c .reshared2 .ensures (a .slot) (a .granule .0) (rw (c .before .before .before .before .is-shared .ensures) (w .owner))))
 
-same-length-3 : tie.Need-same-length-3
-same-length-3 c = search needs
+mul-frames-2 : tie.Need-mul-frames-2
+mul-frames-2 c = omega (arith, words (c .before .before .before .before .before) .inside)
 
-same-length-4 : tie.Need-same-length-4
-same-length-4 c = search needs
+slice-write-frames-2 : tie.Need-slice-write-frames-2
+slice-write-frames-2 c = words (c .before .before .before .before .before) .inside
 
 returns-4 : tie.Need-returns-4
-returns-4 c = in-row _ _ _ (c .before .before .before .before .before .before .before .before .before .before .args .row .now) _ (c .before .before .before .before .before .before .before .if1 .left) _ (c .before .before .before .before .granule-state .ensures) _ (Bare (c .before .word .given .0 .0)) (c .before .before .before .change .ensures) (c .before .word .given .1)
-
-same-length-5 : tie.Need-same-length-5
-same-length-5 c = search needs
-
-same-length-6 : tie.Need-same-length-6
-same-length-6 c = search needs
+returns-4 c =
+    let a = c .before .before .before .before .before .before .before .before .before .before .args in
+    rw (c .refusal .ensures) (differs _ _ _ (a .row .now) _ (c .before .before .before .before .before .before .before .if1 .left) _ (c .before .before .before .before .compare .ensures) (c .before .before .enum-told .given .1))
 
 returns-5 : tie.Need-returns-5
 returns-5 c =
-    rw (c .before .map-word .ensures, c .frame-word .ensures)
-    (in-row _ _ _ (c .before .before .before .before .before .before .before .before .before .before .before .before .args .row .now) _ (c .before .before .before .before .before .before .before .before .before .if1 .left) _ (c .before .before .before .before .before .before .granule-state .ensures) _ (WithFrame (c .before .before .before .frame .given .0 .0)) (c .before .before .before .before .before .change .ensures) (c .before .before .before .frame .given .1))
+    let a = c .before .before .before .before .before .before .before .before .before .before .before .before .args in
+    bare-done _ _ _ (a .row .now) _ (c .before .before .before .before .before .before .before .before .before .if1 .left) _ (c .before .before .before .before .before .before .compare .ensures) (c .before .before .before .before .enum-told2 .given .1) (sym (c .before .before .before .has-frame .ensures) ∙ c .before .before .if2 .left) _
+    (rw (c .before .is-guarded .ensures) at (c .of-bare .ensures))
+
+returns-6 : tie.Need-returns-6
+unfolding frameBits
+returns-6 c =
+    let a = c .before .before .before .before .before .before .before .before .before .before .before .before .before .args in
+    frame-done _ _ _ (a .row .now) _ (c .before .before .before .before .before .before .before .before .before .before .if1 .left) _ (c .before .before .before .before .before .before .before .compare .ensures) _ (c .before .before .before .before .before .frame .given .1) false (sym (c .before .before .before .has-frame2 .ensures) ∙ c .before .before .if3 .left) _ _
+    (rw (c .before .is-guarded2 .ensures) at (c .of-bare2 .ensures)) refl
 
 pub change-granule-spec : {M : Type 1} → statement M
 change-granule-spec =
     tie.close
     (tie.spec
     returns
-    mul-granule-state
-    slice-read-granule-state
-    granule-state-requires
-    change-requires
-    enum-told
-    enum-told-2
-    enum-known-word
-    mul-row
-    slice-write-row
-    enum-known-frame
-    map-word-requires
-    mul-row-2
-    slice-write-row-2
-    frame-word-requires
+    (λ c. search needs)
+    (λ c. search needs)
+    (λ c κs. search needs)
+    (λ c. search needs)
+    (λ c κs. search needs)
+    (λ c. search needs)
+    (λ c κs. search needs)
+    (λ c. search needs)
+    returns-2
+    (λ c κs. search needs)
+    (λ c κs. search needs)
+    (λ c. search needs)
+    (λ c. search needs)
+    (λ c. search needs)
+    (λ c κs. search needs)
+    (λ c κs. search needs)
+    (λ c κs. search needs)
+    (λ c κs. search needs)
+    (λ c. search needs)
+    (λ c. search needs)
+    mul-reshared
+    slice-read-reshared
+    (λ c κs. search needs)
     mul-frames
     slice-write-frames
-    same-length
-    returns-2
-    same-length-2
+    (λ c. search needs)
+    (λ c. search needs)
     returns-3
-    same-length-3
-    same-length-4
+    (λ c κs. search needs)
+    (λ c κs. search needs)
+    (λ c. search needs)
+    (λ c. search needs)
+    mul-frames-2
+    slice-write-frames-2
+    (λ c. search needs)
     returns-4
-    same-length-5
-    same-length-6
-    returns-5)
+    (λ c. search needs)
+    (λ c. search needs)
+    returns-5
+    (λ c. search needs)
+    (λ c. search needs)
+    returns-6)

@@ -1,16 +1,16 @@
--- The steps so far are done and stand in the tables, from wherever the first of them began; each turn adds one or ends the range.
-use Rattle.granules.proofs.StepLaws.{done-below}
-use Rattle.granules.specs.declared.step.Outcome.the-variants as outcome
-use Rattle.granules.specs.declared.step.Outcome.{Outcome}
-use denote.Enum.Declared.{tagOf}
-use types.Run.{OneOf}
+-- The granules so far are done; each turn does the next or ends the range, and so do the limit and the row's end.
+use mathlib.Core.Path.{_≡_}
 use mathlib.Core.List.{List, [], _∷_}
 use mathlib.Core.Logic.{⊎-elim}
-use mathlib.Core.Path.{_≡_}
-use Rattle.ranges.proofs.RangeLaws.{all, more, stop}
-use Rattle.ranges.specs.Range.{Going}
-use Prim.Native.Nat.{ℕ, _-_}
+use Prim.Native.Nat.{ℕ, _+_, _-_, _≤_}
+use native.Mathlib.Nat.{add-zero}
 use native.Mathlib.Omega.{arith}
+use denote.Enum.Declared.{tagOf}
+use types.Run.{OneOf}
+use Rattle.granules.specs.declared.step.Outcome.the-variants as outcome
+use Rattle.granules.specs.declared.step.Outcome.{Outcome}
+use Rattle.ranges.specs.Range.{Going}
+use Rattle.ranges.proofs.RangeLaws.{begun, ran, more, stopped}
 use borrow.Author.Needs.{needs}
 use Rattle.ranges.proofs.range.change_range.Statement.{statement}
 use Rattle.ranges.proofs.range.change_range.Tie as tie
@@ -21,69 +21,50 @@ not-done outcome.Refused h e = let z : _≡_ {A = ℕ} 0 1 = cc in omega arith
 not-done outcome.Damaged h e = let z : _≡_ {A = ℕ} 0 1 = cc in omega arith
 
 abbrev Inv-loop : tie.InvT-loop
-Inv-loop row₀ frames₀ slot count operation limit start done₀ row frames done =
-    (row₁ frames₁ : List ℕ) → Going operation slot row₁ frames₁ start limit row₀ frames₀ done₀
-    → Going operation slot row₁ frames₁ start limit row frames done
+Inv-loop row₀ frames₀ slot count operation limit start granules end number₀ row frames number =
+    Going operation slot row₀ frames₀ start limit row frames number × (number ≤ end)
 
 abbrev μ-loop : tie.MeasureT-loop
-μ-loop row₀ frames₀ slot count operation limit start done₀ row frames done = limit - done
-
--- what is done where the loop's test is reached
-so-far : (c : tie.At-loop Inv-loop μ-loop) → let a = c .before .before .before .before .before .before .before .before .before .before .before .args in
-    Going (a .operation) (a .slot) (a .row .now) (a .frames .now) (a .first .0) (c .before .before .before .before .before .before .before .before .at-most .result) (c .loop .row) (c .loop .frames) (c .loop .done)
-so-far c = c .loop .inv _ _ (c .before .before .before .before .before .reshare-range .ensures)
-
-at-most-requires : tie.Need-at-most-requires Inv-loop μ-loop
-at-most-requires c κs = search needs
-
-reshare-range-requires : tie.Need-reshare-range-requires Inv-loop μ-loop
-reshare-range-requires c κs = search needs
-
-loop-holds : tie.Need-loop-holds Inv-loop μ-loop
-loop-holds c = λ row₁ frames₁ i. i
-
-add-t20 : tie.Need-add-t20 Inv-loop μ-loop
-add-t20 c = omega (arith, (so-far (c .before .before .before)) .within)
-
-change-granule-requires : tie.Need-change-granule-requires Inv-loop μ-loop
-change-granule-requires c κs = search needs
-
-enum-told : tie.Need-enum-told Inv-loop μ-loop
-enum-told c = search needs
-
-add-done : tie.Need-add-done Inv-loop μ-loop
-add-done c = search needs
-
-loop-less : tie.Need-loop-less Inv-loop μ-loop
-loop-less c = search needs
-
-loop-again : tie.Need-loop-again Inv-loop μ-loop
-loop-again c =
-    λ row₁ frames₁ begins.
-    let i = c .before .before .before .before .before .before .before .before .before .before .loop .inv row₁ frames₁ begins in
-    let one = rw (c .enum-told .given .1) at (c .before .before .before .before .before .before .change-granule .ensures) in
-    let below = done-below _ _ _ (c .before .before .before .before .before .before .before .before .before .before .loop .row) _ _ _ one in
-    more i (c .before .before .before .before .before .before .before .before .before .loop-test .taken) one below (c .before .before .before .before .before .before .change-granule .kept .0) (c .before .before .before .before .before .before .change-granule .kept .1 .0)
-
-same-length : tie.Need-same-length Inv-loop μ-loop
-same-length c = let i = so-far (c .before .before .before .before .before .before .before .before .before) in search needs
-
-same-length-2 : tie.Need-same-length-2 Inv-loop μ-loop
-same-length-2 c = let i = so-far (c .before .before .before .before .before .before .before .before .before) in search needs
+μ-loop row₀ frames₀ slot count operation limit start granules end number₀ row frames number = end - number
 
 returns : tie.Need-returns Inv-loop μ-loop
 returns c =
-    let i = so-far (c .before .before .before .before .before .before .before .before .before) in
-    rw (c .before .before .before .before .before .before .before .before .before .before .before .before .before .before .before .before .before .at-most .ensures) at (stop i (c .before .before .before .before .before .before .before .before .loop-test .taken) (c .before .before .before .before .before .change-granule .result) (not-done (c .before .before .before .before .before .change-granule .result) (c .match .keys2)) (c .before .before .before .before .before .change-granule .ensures))
+    let a = c .before .before .before .before .before .args in
+    let i : Going (a .operation) (a .slot) (a .row .now) (a .frames .now) (a .first .0) (c .before .before .least .result) (a .row .now) (a .frames .now) (a .first .0) = begun in
+    let none : a .first .0 - a .first .0 ≡ 0 = omega arith in
+    rw (c .stopped .ensures .0, c .stopped .ensures .1, ← c .before .before .least .ensures, add-zero) (rw none at (ran i (λ h. c .before .if1 .taken)))
 
-same-length-3 : tie.Need-same-length-3 Inv-loop μ-loop
-same-length-3 c = let i = so-far (c .before) in search needs
+add-end : tie.Need-add-end Inv-loop μ-loop
+add-end c = omega (arith, c .least2 .ensures)
 
-same-length-4 : tie.Need-same-length-4 Inv-loop μ-loop
-same-length-4 c = let i = so-far (c .before) in search needs
+loop-holds : tie.Need-loop-holds Inv-loop μ-loop
+loop-holds c = (begun, omega arith)
+
+loop-again : tie.Need-loop-again Inv-loop μ-loop
+loop-again c =
+    let l = c .before .before .before .before .before .before .before .before .before .before in
+    let step = c .before .before .before .before .before .before .change-granule in
+    let one = rw (c .enum-told .given .1) at (step .ensures) in
+    (more (l .loop .inv .0) (omega (arith, l .before .least2 .ensures)) one (step .kept .0) (step .kept .1 .0), omega arith)
 
 returns-2 : tie.Need-returns-2 Inv-loop μ-loop
-returns-2 c = rw (c .before .before .before .before .before .before .before .before .before .at-most .ensures) at (all (so-far (c .before)) (c .loop-test .left))
+returns-2 c =
+    let l = c .before .before .before .before .before .before .before .before .before in
+    let i = l .loop .inv .0 in
+    let step = c .before .before .before .before .before .change-granule in
+    let start = l .before .before .before .before .before .before .args .first .0 in
+    let there : start + (l .loop .number - start) ≡ l .loop .number = omega (arith, i .upward) in
+    rw (there, ← l .before .before .before .least .ensures)
+    (stopped i (omega (arith, l .before .least2 .ensures)) (step .result) (not-done (step .result) (c .match .keys2)) (step .ensures))
+
+returns-3 : tie.Need-returns-3 Inv-loop μ-loop
+returns-3 c =
+    let l = c .before .before in
+    let i = l .loop .inv .0 in
+    let start = l .before .before .before .before .before .before .args .first .0 in
+    let there : start + (l .loop .number - start) ≡ l .loop .number = omega (arith, i .upward) in
+    rw (c .stopped2 .ensures .0, c .stopped2 .ensures .1, ← l .before .before .before .least .ensures, there)
+    (ran i (λ h. omega (arith, i .rows, l .before .least2 .ensures)))
 
 pub change-range-spec : {M : Type 1} → statement M
 change-range-spec =
@@ -91,18 +72,24 @@ change-range-spec =
     (tie.spec
     Inv-loop
     μ-loop
-    at-most-requires
-    reshare-range-requires
-    loop-holds
-    add-t20
-    change-granule-requires
-    enum-told
-    add-done
-    loop-less
-    loop-again
-    same-length
-    same-length-2
+    (λ c κs. search needs)
+    (λ c κs. search needs)
     returns
-    same-length-3
-    same-length-4
-    returns-2)
+    (λ c. search needs)
+    (λ c κs. search needs)
+    add-end
+    loop-holds
+    (λ c κs. search needs)
+    (λ c. search needs)
+    (λ c. search needs)
+    (λ c. search needs)
+    loop-again
+    (λ c. search needs)
+    (λ c. search needs)
+    (λ c. search needs)
+    returns-2
+    (λ c. search needs)
+    (λ c κs. search needs)
+    (λ c. search needs)
+    (λ c. search needs)
+    returns-3)
