@@ -12,7 +12,7 @@ use Rattle.answers.specs.Answer.{numbersOf}
 use Rattle.records.specs.Monitor.{guestOf}
 use Rattle.commands.specs.Command.{effected}
 use Rattle.commands.specs.State.{State, state}
-use Rattle.granules.specs.Kind.{bare, frameThen}
+use Rattle.granules.specs.Kind.{hasFrame, bare, frameThen}
 use Rattle.granules.specs.Step.{Place, place, Refusal, isDamaged, notDone, tableStep}
 use Rattle.granules.specs.declared.kinds.Operation.{Operation}
 use Rattle.functions.specs.Function.{askedBy}
@@ -27,7 +27,6 @@ use Rattle.history.specs.Log.{FrameChange, among, changedWhere}
 use Rattle.history.proofs.StateWords.{own}
 use Rattle.history.proofs.WordsSound.{WordsSound}
 use Rattle.history.proofs.FramesAtGranules.{ownerAfter, owner-changed}
-use Rattle.history.proofs.StepWrites.{hasFrame}
 use Rattle.history.proofs.Ranges.{mayMake, RangeDone, RangeDoneAt, range-done}
 use Rattle.history.proofs.Preserved.{Fine, Preserved, refused-kept}
 use Rattle.history.proofs.LoggedFunctions.{afterFunction, after-asked}

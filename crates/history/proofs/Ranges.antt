@@ -22,12 +22,11 @@ use Rattle.records.specs.Monitor.{guestOf}
 use Rattle.commands.specs.State.{State, state}
 use Rattle.records.specs.declared.guest.Guest.{Guest}
 use Rattle.records.specs.declared.monitor.Monitor.{Monitor}
-use Rattle.granules.specs.Kind.{wordWith, frameThen, changeOf}
+use Rattle.granules.specs.Kind.{hasFrame, wordWith, frameThen, writeBare, writeFramed, changeOf}
 use Rattle.granules.specs.Step.{Place, place, tableStep}
 use Rattle.granules.specs.declared.kinds.Kind.{Kind}
 use Rattle.granules.specs.declared.kinds.Kind.the-variants.{Vacant, Private, Shared, Guarded}
 use Rattle.granules.specs.declared.kinds.Operation.{Operation}
-use Rattle.granules.specs.declared.kinds.Change.the-variants.{Bare, WithFrame}
 use Rattle.granules.proofs.ChangeLaws.{with-frame, writable}
 use Rattle.history.specs.Log.{among}
 use Rattle.history.specs.Sound.{mayHold}
@@ -36,7 +35,7 @@ use Rattle.history.proofs.WordsSound.{stateBy, WordsSound}
 use Rattle.history.proofs.NamingPairs.{NameOnlyEachOther, pair-named, pair-apart, NamesNone}
 use Rattle.history.proofs.WordMoves.{pair-put, granule-put}
 use Rattle.history.proofs.FramesAtGranules.{ownerWhere, owner-where-none, owner-where-next, owner-where-here, owner-where-elsewhere}
-use Rattle.history.proofs.StepWrites.{step-wrote, hasFrame, without-frame, framed}
+use Rattle.history.proofs.StepWrites.{step-wrote, without-frame, framed}
 
 -- what a guest may make of its granules
 abbrev pub mayMake : Guest → Kind → Bool
@@ -88,7 +87,7 @@ module _ (F W : ℕ) (m : Monitor) (o : Operation) (v : ℕ) (hv : v < 8) (may :
     unfolding look
     seen = rw (width-is (i .sized))
 
-    bare-done : (w : ℕ) → Bare w ≡ changeOf o found → RangeDoneAt F W m o v s g 1 (place (set map (wordIndex (length map) v g) w) frames (suc g))
+    bare-done : (w : ℕ) → writeBare w ≡ changeOf o found → RangeDoneAt F W m o v s g 1 (place (set map (wordIndex (length map) v g) w) frames (suc g))
     unfolding own
     bare-done w e =
         let k = without-frame o found w e in
@@ -101,7 +100,7 @@ module _ (F W : ℕ) (m : Monitor) (o : Operation) (v : ℕ) (hv : v < 8) (may :
           same = λ q f h. refl;
         }
 
-    frame-done : (f : ℕ) → WithFrame f ≡ changeOf o found
+    frame-done : (f : ℕ) → writeFramed f ≡ changeOf o found
         → RangeDoneAt F W m o v s g 1 (place (set map (wordIndex (length map) v g) (mapBits (wordWith (o .makes) f))) (set frames f (frameBits (frameThen (o .makes) v g))) (suc g))
     unfolding own
     frame-done f e =

@@ -17,42 +17,40 @@ use Rattle.pairs.specs.Pair.{granuleState, pairAt, granuleUndamaged}
 use Rattle.pairs.specs.declared.pairs.GranuleState.{GranuleState}
 use Rattle.pairs.specs.declared.pairs.GranuleState.the-variants as granule-state
 use Rattle.commands.specs.State.{State}
-use Rattle.granules.specs.Kind.{isOf, bare, changeOf}
+use Rattle.granules.specs.Kind.{isOf, GranuleChange, leaveDamaged, leaveOther, writeBare, writeFramed, bare, changeOf}
 use Rattle.granules.specs.Step.{Place, place, Refusal, isDamaged, notDone, written, stepFrom, tableStep}
 use Rattle.granules.specs.declared.kinds.Kind.{Kind}
 use Rattle.granules.specs.declared.kinds.Kind.the-variants.{Vacant, Private, Shared, Guarded}
 use Rattle.granules.specs.declared.kinds.Operation.{Operation}
-use Rattle.granules.specs.declared.kinds.Change.{Change}
-use Rattle.granules.specs.declared.kinds.Change.the-variants.{Damaged, Refused, Bare, WithFrame}
 use Rattle.history.proofs.StateWords.{look, width-is}
 use Rattle.history.proofs.WordsSound.{WordsSound}
 use Rattle.history.proofs.SoundLaws.{pair-seen}
 use Rattle.history.proofs.PassedTests.{granule-undamaged, below-width}
 
 -- a step refuses for damage only where its granule is damaged
-bare-undamaged : (x : Bool) (m : Kind) → cond x (bare m) Refused ≢ Damaged
+bare-undamaged : (x : Bool) (m : Kind) → cond x (bare m) leaveOther ≢ leaveDamaged
 bare-undamaged true Vacant e = let z : _≡_ {A = ℕ} 0 1 = cc in omega arith
 bare-undamaged true Private e = let z : _≡_ {A = ℕ} 0 1 = cc in omega arith
 bare-undamaged true Shared e = let z : _≡_ {A = ℕ} 0 1 = cc in omega arith
 bare-undamaged true Guarded e = let z : _≡_ {A = ℕ} 0 1 = cc in omega arith
 bare-undamaged false m e = let z : _≡_ {A = ℕ} 0 1 = cc in omega arith
 
-framed-undamaged : (x : Bool) (f : ℕ) → cond x (WithFrame f) Refused ≢ Damaged
+framed-undamaged : (x : Bool) (f : ℕ) → cond x (writeFramed f) leaveOther ≢ leaveDamaged
 framed-undamaged true f e = let z : _≡_ {A = ℕ} 0 1 = cc in omega arith
 framed-undamaged false f e = let z : _≡_ {A = ℕ} 0 1 = cc in omega arith
 
-change-damaged : (o : Operation) (k : GranuleState) → granuleUndamaged k ≡ true → changeOf o k ≢ Damaged
+change-damaged : (o : Operation) (k : GranuleState) → granuleUndamaged k ≡ true → changeOf o k ≢ leaveDamaged
 unfolding changeOf
 change-damaged o granule-state.Vacant h e = bare-undamaged (isOf (o .needs) granule-state.Vacant) (o .makes) e
 change-damaged o (granule-state.Frame b f) h e = framed-undamaged (isOf (o .needs) (granule-state.Frame b f)) f e
 change-damaged o granule-state.Guarded h e = bare-undamaged (isOf (o .needs) granule-state.Guarded) (o .makes) e
 change-damaged o granule-state.Damaged h e = never h
 
-written-damaged : (k : Kind) (v i : ℕ) (map frames : List ℕ) (g : ℕ) (d : Change) → written k v i map frames g d ≡ refuses isDamaged → d ≡ Damaged
-written-damaged k v i map frames g Damaged e = refl
-written-damaged k v i map frames g Refused e = let z : _≡_ {A = ℕ} 0 1 = cc in absurd (omega arith)
-written-damaged k v i map frames g (Bare w) e = let z : _≡_ {A = ℕ} 0 1 = cc in absurd (omega arith)
-written-damaged k v i map frames g (WithFrame f) e = let z : _≡_ {A = ℕ} 0 1 = cc in absurd (omega arith)
+written-damaged : (k : Kind) (v i : ℕ) (map frames : List ℕ) (g : ℕ) (d : GranuleChange) → written k v i map frames g d ≡ refuses isDamaged → d ≡ leaveDamaged
+written-damaged k v i map frames g leaveDamaged e = refl
+written-damaged k v i map frames g leaveOther e = let z : _≡_ {A = ℕ} 0 1 = cc in absurd (omega arith)
+written-damaged k v i map frames g (writeBare w) e = let z : _≡_ {A = ℕ} 0 1 = cc in absurd (omega arith)
+written-damaged k v i map frames g (writeFramed f) e = let z : _≡_ {A = ℕ} 0 1 = cc in absurd (omega arith)
 
 refused-within : (x : Bool) (o : Step Place Refusal) → cond x o (refuses notDone) ≡ refuses isDamaged → (x ≡ true) × (o ≡ refuses isDamaged)
 refused-within true o e = (refl, e)

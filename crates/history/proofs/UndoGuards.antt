@@ -41,11 +41,11 @@ plain-word g (map-word.Frame false f) h a b = refl
 plain-word g map-word.Guarded h a b = absurd (b refl)
 plain-word g map-word.Damaged h a b = never h
 
-abbrev pub isShared : FrameWord → Bool
-isShared frame-word.Host = false
-isShared frame-word.Waiting = false
-isShared (frame-word.Owned v b g) = b
-isShared frame-word.Damaged = false
+abbrev pub isSharedFrame : FrameWord → Bool
+isSharedFrame frame-word.Host = false
+isSharedFrame frame-word.Waiting = false
+isSharedFrame (frame-word.Owned v b g) = b
+isSharedFrame frame-word.Damaged = false
 
 guarded? : (d : MapWord) → Dec (d ≡ map-word.Guarded)
 guarded? map-word.Vacant = no (λ e. let z : _≡_ {A = ℕ} 0 1 = cc in omega arith)
@@ -55,12 +55,12 @@ guarded? map-word.Damaged = no (λ e. let z : _≡_ {A = ℕ} 0 1 = cc in omega 
 
 module _ (F W : ℕ) (bounds : lengthsHold F (8 * W) ≡ true) where
   abbrev NoneShared : State → Type 0
-  NoneShared s = (f : ℕ) → f < F → isShared (own s f) ≡ false
+  NoneShared s = (f : ℕ) → f < F → isSharedFrame (own s f) ≡ false
 
   unshared-word : (s : State) → WordsSound F W s → NoneShared s → (v g f : ℕ) → v < 8 → g < W → look W s v g ≢ map-word.Frame true f
   unshared-word s i none v g f a b e =
       let p = i .says-back v true g f a b e in
-      let y : isShared (own s f) ≡ true = rw (p .1) in
+      let y : isSharedFrame (own s f) ≡ true = rw (p .1) in
       never (sym (none f (p .0)) ∙ y)
 
   -- no granule whose word is the n-th or a later one is guarded

@@ -21,7 +21,7 @@ use Rattle.history.proofs.WordMoves.{FramePut, GranulePut, pair-put}
 use Rattle.history.proofs.SameState.{frame-back, map-back}
 use Rattle.history.proofs.CallsDone.{asking, asking-fits, share-leaves}
 use Rattle.history.proofs.Reached.{Reached, reached-next, Undone, undone-put, frames-reached}
-use Rattle.history.proofs.UndoGuards.{run-live, isShared, unshared-reached}
+use Rattle.history.proofs.UndoGuards.{run-live, isSharedFrame, unshared-reached}
 
 module _ (F W : ℕ) (bounds : lengthsHold F (8 * W) ≡ true) where
   -- of every state
@@ -52,7 +52,7 @@ module _ (F W : ℕ) (bounds : lengthsHold F (8 * W) ≡ true) where
         ∙ rw
         (frame-back i n (frameBits (frame-word.Owned v false g)) (frame-word.Owned v true g) h e, map-back i v g (mapBits (map-word.Frame false n)) (map-word.Frame true n) (said .0) (said .1) (said .2)))
 
-  undo : (s : State) → WordsSound F W s → (n : ℕ) → n < F → (d : FrameWord) → own s n ≡ d → isShared d ≡ true → Undone F W Any isShared s n
+  undo : (s : State) → WordsSound F W s → (n : ℕ) → n < F → (d : FrameWord) → own s n ≡ d → isSharedFrame d ≡ true → Undone F W Any isSharedFrame s n
   undo s i n h frame-word.Host e w = never w
   undo s i n h frame-word.Waiting e w = never w
   undo s i n h (frame-word.Owned v true g) e w =
@@ -61,4 +61,4 @@ module _ (F W : ℕ) (bounds : lengthsHold F (8 * W) ≡ true) where
   undo s i n h frame-word.Damaged e w = never w
 
   pub sound-reached : (s : State) → WordsSound F W s → Reached F W s
-  sound-reached s i = frames-reached F W Any isShared (λ t j c none. unshared-reached F W bounds t j none) (λ t j c n h w. undo t j n h (own t n) refl w) s i tt
+  sound-reached s i = frames-reached F W Any isSharedFrame (λ t j c none. unshared-reached F W bounds t j none) (λ t j c n h w. undo t j n h (own t n) refl w) s i tt

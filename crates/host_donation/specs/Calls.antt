@@ -1,5 +1,5 @@
 -- Document 01, "Host calls": donate; with "Verdicts, in the order they are tested".
-use mathlib.Core.Bool.{Bool, true, false}
+use mathlib.Core.Bool.{false}
 use mathlib.Core.List.{List, [], _∷_}
 use Prim.Native.Nat.{ℕ}
 use lib.Dec.{ltb}
@@ -10,29 +10,13 @@ use Rattle.words.specs.declared.map_word.MapWord.the-variants as map-word
 use Rattle.words.specs.declared.frame_word.FrameWord.the-variants as frame-word
 use Rattle.tables.specs.Length.{widthOf}
 use Rattle.tables.specs.Row.{wordIndex}
-use Rattle.pairs.specs.Pair.{pairAt, pairOf, granuleUndamaged, frameUndamaged}
-use Rattle.pairs.specs.declared.pairs.GranuleState.{GranuleState}
-use Rattle.pairs.specs.declared.pairs.GranuleState.the-variants as granule-state
-use Rattle.pairs.specs.declared.pairs.FrameState.{FrameState}
-use Rattle.pairs.specs.declared.pairs.FrameState.the-variants as frame-state
+use Rattle.pairs.specs.Pair.{pairAt, pairOf, granuleUndamaged, granuleVacant, frameUndamaged, frameHosts}
 use Rattle.commands.specs.State.{State, Answered}
 use Rattle.commands.specs.Tests.{Tests}
 use Rattle.commands.specs.Command.{View, bothTables, givenSlot, hostSuccess, Effect, writeTables, Command, command, performed}
 use Rattle.records.specs.declared.change.Change.the-variants.{Kept}
 use Rattle.answers.specs.declared.answer.Answer.{Answer}
 use Rattle.answers.specs.declared.answer.Answer.the-variants.{OutOfRange, InUse, Damaged}
-
-abbrev pub granuleVacant : GranuleState → Bool
-granuleVacant granule-state.Vacant = true
-granuleVacant (granule-state.Frame s f) = false
-granuleVacant granule-state.Guarded = false
-granuleVacant granule-state.Damaged = false
-
-abbrev pub frameHosts : FrameState → Bool
-frameHosts frame-state.Host = true
-frameHosts frame-state.Waiting = false
-frameHosts (frame-state.Owned v s g) = false
-frameHosts frame-state.Damaged = false
 
 -- donate frame f to granule g of slot v, after lengths (1) and slot (2): frame and granule in range (4), "the granule's and the frame's words,
 -- each with its partner" (6), "frame not the host's, or granule not vacant" (5)

@@ -3,10 +3,6 @@ ghost use Rattle.commands.specs.State.{state, answered};
 ghost use Rattle.commands.specs.Tests.{firstRefusal, refusalBy};
 ghost use Rattle.commands.specs.Command.{view, testsOf, result, resultOf};
 ghost use Rattle.host_donation.specs.Calls.{donateCommand, donateOf};
-use crate::states::frame_hosts;
-use crate::states::frame_undamaged;
-use crate::states::granule_undamaged;
-use crate::states::granule_vacant;
 use answers::Answer;
 use commands::Admission;
 use commands::Decision;
@@ -86,8 +82,8 @@ fn donate_admission(
             (granule as usize) < row_width(map.len()),
             Answer::OutOfRange,
         )
-        .check(granule_undamaged(here), Answer::Damaged)
-        .check(frame_undamaged(there), Answer::Damaged)
-        .check(frame_hosts(there), Answer::InUse)
-        .check(granule_vacant(here), Answer::InUse)
+        .check(here.is_undamaged(), Answer::Damaged)
+        .check(there.is_undamaged(), Answer::Damaged)
+        .check(there.is_host(), Answer::InUse)
+        .check(here.is_vacant(), Answer::InUse)
 }

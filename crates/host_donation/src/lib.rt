@@ -2,7 +2,6 @@
 // It tests in document 01's order, and looks first and writes after. It rests on words, tables, pairs, answers, records and commands. It
 // changes no record, and one word of each table.
 mod donation;
-mod states;
 
 pub use donation::decide_donate;
 pub use donation::donate;
