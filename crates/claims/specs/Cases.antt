@@ -35,8 +35,8 @@ hypercall0 a b c d = Hypercall 0 (registers a b c d)
 abbrev pub share : ℕ → ℕ → Call
 share b n = hypercall0 0xC6000003 b n 0
 
-abbrev pub enroll : Call
-enroll = hypercall0 0xC6000006 0 0 0
+abbrev pub enrollCall : Call
+enrollCall = hypercall0 0xC6000006 0 0 0
 
 -- in the sheet's order
 abbrev pub cases : List (Case Numbers)
@@ -51,8 +51,8 @@ cases =
     ∷ case bench (Donate 0 4 63 ∷ []) (share 0x3F000 2) (returnsDone 1)
     ∷ case bench [] (hypercall0 0x1C6000003 0x5000 0 0) (returnsDone 1)
     ∷ case bench [] (hypercall0 0xC600000C 0 0 0) (returnsError 1)
-    ∷ case bench (enroll ∷ []) (hypercall0 0xC600000A 0x7000 0 0) (returnsError 1)
-    ∷ case bench (enroll ∷ []) (hypercall0 0xC6000007 0x5000 0 0) (returnsError 1)
+    ∷ case bench (enrollCall ∷ []) (hypercall0 0xC600000A 0x7000 0 0) (returnsError 1)
+    ∷ case bench (enrollCall ∷ []) (hypercall0 0xC6000007 0x5000 0 0) (returnsError 1)
     ∷ case bench [] (Abort 0 0x6000) (verdictWith 11 0x6000)
-    ∷ case bench (enroll ∷ []) (Abort 0 0x6000) (verdictWith 12 0)
+    ∷ case bench (enrollCall ∷ []) (Abort 0 0x6000) (verdictWith 12 0)
     ∷ []

@@ -53,13 +53,13 @@ pub record Writable (frames : List ℕ) (v g w f : ℕ) : Type 0 where
   pub granule : g < 2 ^ 16
 
 -- what holds of a granule that has frame f
-pub record Framed (frames : List ℕ) (v g w : ℕ) (s : Bool) (f : ℕ) : Type 0 where
+pub record FramePair (frames : List ℕ) (v g w : ℕ) (s : Bool) (f : ℕ) : Type 0 where
   pub word : mapWordOf w ≡ map-word.Frame s f
   pub owner : frameWordOf (getD frames f 0) ≡ frame-word.Owned v s g
   pub inside : f < length frames
 
-pub framed : (frames : List ℕ) (v g w : ℕ) (s : Bool) (f : ℕ) → granule-state.Frame s f ≡ granuleState frames v g (mapWordOf w) → Framed frames v g w s f
-framed frames v g w s f e =
+pub frame-pair : (frames : List ℕ) (v g w : ℕ) (s : Bool) (f : ℕ) → granule-state.Frame s f ≡ granuleState frames v g (mapWordOf w) → FramePair frames v g w s f
+frame-pair frames v g w s f e =
     let says : mapWordOf w ≡ map-word.Frame s f = granule-says frames v g (mapWordOf w) (granule-state.Frame s f) e (λ q. let z : _≡_ {A = ℕ} 0 1 = cc in omega arith) in
     let names = granule-names frames v g s f (e ∙ rw says) in
     record { word = says; owner = names .1; inside = names .0 }
@@ -68,7 +68,7 @@ pub writable : (o : Operation) (frames : List ℕ) (v g w : ℕ) (k : GranuleSta
     → Writable frames v g w f
 writable o frames v g w k e f d =
     let p = with-frame o k f d in
-    let h = framed frames v g w (p .0) f (sym (p .1) ∙ e) in
+    let h = frame-pair frames v g w (p .0) f (sym (p .1) ∙ e) in
     let fits = rw (h .owner) at (frame-fits (getD frames f 0)) in
     record {
       sharing = p .0;

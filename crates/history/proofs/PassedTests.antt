@@ -11,13 +11,12 @@ use Rattle.words.specs.declared.map_word.MapWord.the-variants as map-word
 use Rattle.words.specs.declared.frame_word.FrameWord.{FrameWord}
 use Rattle.words.specs.declared.frame_word.FrameWord.the-variants as frame-word
 use Rattle.tables.specs.Length.{widthOf}
-use Rattle.pairs.specs.Pair.{pairAt, granuleUndamaged, granuleVacant, frameHosts}
+use Rattle.pairs.specs.Pair.{pairAt, granuleUndamaged, granuleVacant, frameHosts, frameWaiting}
 use Rattle.pairs.specs.declared.pairs.GranuleState.{GranuleState}
 use Rattle.pairs.specs.declared.pairs.GranuleState.the-variants as granule-state
 use Rattle.records.specs.Monitor.{guestOf}
 use Rattle.commands.specs.State.{State}
 use Rattle.records.specs.declared.guest.Guest.{Guest}
-use Rattle.host_frames.specs.Calls.{frameWaiting}
 use Rattle.history.specs.Sound.{mayHold}
 use Rattle.history.proofs.StateWords.{width-is}
 use Rattle.history.proofs.WordsSound.{stateBy, WordsSound}

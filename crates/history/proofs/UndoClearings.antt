@@ -12,6 +12,7 @@ use Rattle.words.specs.declared.map_word.MapWord.the-variants as map-word
 use Rattle.words.specs.declared.frame_word.FrameWord.{FrameWord}
 use Rattle.words.specs.declared.frame_word.FrameWord.the-variants as frame-word
 use Rattle.words.proofs.Booleans.{both-true}
+use Rattle.pairs.specs.Pair.{frameWaiting}
 use Rattle.tables.specs.Length.{framesHold, mapHolds, lengthsHold}
 use Rattle.tables.proofs.LengthLaws.{width-between}
 use Rattle.records.specs.Monitor.{zeroGuest, newGuest, guestOf, withGuest, freeFrom, freeSlot}
@@ -19,7 +20,6 @@ use Rattle.commands.specs.State.{State, state}
 use Rattle.commands.specs.Command.{viewOf, effected}
 use Rattle.records.specs.declared.guest.Guest.{Guest}
 use Rattle.records.proofs.MonitorLaws.{guest-put, guest-fresh}
-use Rattle.host_frames.specs.Calls.{frameWaiting}
 use Rattle.host_removal.specs.Calls.{removed}
 use Rattle.calls.specs.declared.call.Call.the-variants.{Create, Donate, Remove}
 use Rattle.history.proofs.StateWords.{own, look, width-is, at-or-not, at-most}

@@ -1,12 +1,12 @@
 -- Document 01, "Host calls": cleared, and may the host access this frame; with "Verdicts, in the order they are tested".
-use mathlib.Core.Bool.{Bool, true, false}
+use mathlib.Core.Bool.{true, false}
 use mathlib.Core.List.{[], _∷_, _++_}
 use Prim.Native.Nat.{ℕ}
 use lib.Dec.{ltb}
 use lib.ListN.{length, set}
 use Rattle.words.specs.FrameWord.{frameBits}
 use Rattle.words.specs.declared.frame_word.FrameWord.the-variants as frame-word
-use Rattle.pairs.specs.Pair.{pairOf, frameUndamaged}
+use Rattle.pairs.specs.Pair.{pairOf, frameUndamaged, frameWaiting}
 use Rattle.pairs.specs.declared.pairs.FrameState.{FrameState}
 use Rattle.pairs.specs.declared.pairs.FrameState.the-variants as frame-state
 use Rattle.commands.specs.State.{State, Answered}
@@ -15,12 +15,6 @@ use Rattle.commands.specs.Command.{View, bothTables, noSlot, hostSuccess, Effec
 use Rattle.records.specs.declared.change.Change.the-variants.{Kept}
 use Rattle.answers.specs.declared.answer.Answer.{Answer}
 use Rattle.answers.specs.declared.answer.Answer.the-variants.{Done, OutOfRange, Damaged, NotWaiting}
-
-abbrev pub frameWaiting : FrameState → Bool
-frameWaiting frame-state.Host = false
-frameWaiting frame-state.Waiting = true
-frameWaiting (frame-state.Owned v s g) = false
-frameWaiting frame-state.Damaged = false
 
 -- "v0 is 1 for a host's or shared frame, else 0."
 abbrev pub openTo : FrameState → ℕ

@@ -76,6 +76,12 @@ frameHosts frame-state.Waiting = false
 frameHosts (frame-state.Owned v s g) = false
 frameHosts frame-state.Damaged = false
 
+abbrev pub frameWaiting : FrameState → Bool
+frameWaiting frame-state.Host = false
+frameWaiting frame-state.Waiting = true
+frameWaiting (frame-state.Owned v s g) = false
+frameWaiting frame-state.Damaged = false
+
 -- a granule compared with one that is private or shared, as told
 abbrev pub frameCompared : Bool → GranuleState → Comparison
 frameCompared s granule-state.Vacant = comparison.Differs

@@ -12,7 +12,7 @@ pub(crate) struct Turn {
 }
 
 // What some bytes left: the session, how many were taken, and whether their text was written.
-pub(crate) struct Answered {
+pub(crate) struct AnsweredPiece {
     pub session: Session,
     pub taken: usize,
     pub written: bool,
@@ -69,7 +69,7 @@ fn answer(
     out: &mut [u8; ROOM],
     bytes: &[u8],
     to: i32,
-) -> Answered {
+) -> AnsweredPiece {
     let mut session = start;
     let mut taken: usize = 0;
     let mut turns = u64::MAX;
@@ -79,7 +79,7 @@ fn answer(
         taken += step.taken;
         let written = write_out(to, out, step.put);
         if step.waits || !written {
-            return Answered {
+            return AnsweredPiece {
                 session,
                 taken,
                 written,
@@ -87,7 +87,7 @@ fn answer(
         }
         turns -= 1;
     }
-    Answered {
+    AnsweredPiece {
         session,
         taken,
         written: false,

@@ -56,16 +56,16 @@ index-inside map v g r e hv hg =
     rw start (refl, omega (arith, row-inside (length map) v hv))
 
 -- an index into a row is a granule of a slot, and the word there is that granule's
-pub record InRow (map : List ℕ) (v g w : ℕ) : Type 0 where
+pub record RowWord (map : List ℕ) (v g w : ℕ) : Type 0 where
   pub slot : v < 8
   pub granule : g < widthOf (length map)
   pub word : w ≡ wordAt map v g
 
 module _ (map : List ℕ) (v g : ℕ) (words : List ℕ) (e : words ≡ rowOf map v) where
-  pub in-row : g < length words → InRow map v g (getD words g 0)
+  pub in-row : g < length words → RowWord map v g (getD words g 0)
   in-row h = go (decLt v 8) (rw e at h)
     where
-      go : Dec (v < 8) → g < length (rowOf map v) → InRow map v g (getD words g 0)
+      go : Dec (v < 8) → g < length (rowOf map v) → RowWord map v g (getD words g 0)
       go (yes hv) l =
           let hg : g < widthOf (length map) = rw (row-length map v hv) at l in
           record { slot = hv; granule = hg; word = rw e (row-word map v g hv hg) }

@@ -20,7 +20,7 @@ use Rattle.trace_lines.specs.Puts.{Puts}
 use Rattle.trace_lines.specs.declared.lines.Line.the-variants as line
 use Rattle.trace.specs.Replay.{Replay, replay, nextCount, waiting, advanceOf}
 use Rattle.trace.specs.Contracts.{Answers}
-use Rattle.trace.specs.declared.session.Answered.{Answered}
+use Rattle.trace.specs.declared.session.AnsweredRecord.{AnsweredRecord}
 use Rattle.trace.proofs.ReplayLaws.{advance-decoded}
 use Rattle.trace.proofs.ContinueLaws.{Advances}
 
@@ -39,7 +39,7 @@ module _ (frames map : List ℕ) (m : Monitor) (n : ℕ) (s : List ℕ) where
     pub record-goes : advanceOf (going frames map m n false) s .more ≡ true
     record-goes = rw (advance-decoded (going frames map m n false) s (Record c size) refl e)
 
-    pub turn-record : (v : ℕ) (g : Guest) → v ≡ slotNumber (commandOf c .slot) m → g ≡ getD (m .guests) (v % 8) zeroGuest → (x : Answered) (frames′ map′ before after : List ℕ) (p : ℕ)
+    pub turn-record : (v : ℕ) (g : Guest) → v ≡ slotNumber (commandOf c .slot) m → g ≡ getD (m .guests) (v % 8) zeroGuest → (x : AnsweredRecord) (frames′ map′ before after : List ℕ) (p : ℕ)
         → Answers (resultOf (commandOf c) (view frames map v g)) frames′ map′ before p after x
         → (m′ : Monitor) → m′ ≡ withChange m v (x .change) → (k : ℕ) → k ≡ nextCount n
         → Advances (advanceOf (going frames map m n false) s) (going frames′ map′ m′ k false) before p after size (x .put)

@@ -11,7 +11,7 @@ use Rattle.trace_lines.specs.Line.{lineText}
 use Rattle.trace_lines.specs.Puts.{Puts}
 use Rattle.trace_lines.specs.declared.lines.Line.the-variants as line
 use Rattle.trace.specs.declared.session.Session.{Session}
-use Rattle.trace.specs.declared.session.Answered.{Answered}
+use Rattle.trace.specs.declared.session.AnsweredRecord.{AnsweredRecord}
 use Rattle.trace.specs.declared.session.ReplayProgress.{ReplayProgress}
 use Rattle.trace.specs.Replay.{Replay, replay, waiting, advanceOf, textBefore, outcomeOf}
 
@@ -20,7 +20,7 @@ abbrev pub kept : Session → List ℕ → List ℕ → Replay
 kept s frames map = replay (state frames map (s .monitor)) (s .answered) (s .stopped)
 
 -- of a call that comes to o: the tables and the change are its own, and its line stands behind the first n bytes of the buffer
-pub record Answers (o : Result) (frames map before : List ℕ) (n : ℕ) (after : List ℕ) (r : Answered) : Type 0 where
+pub record Answers (o : Result) (frames map before : List ℕ) (n : ℕ) (after : List ℕ) (r : AnsweredRecord) : Type 0 where
   pub frames-left : frames ≡ o .frames
   pub map-left : map ≡ o .map
   pub changes : r .change ≡ o .decision .change

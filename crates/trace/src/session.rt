@@ -34,7 +34,7 @@ pub struct Session {
 
 // What a record that asks for a call came to, beside the tables: what is to be done to the record of the call's slot, and how far the buffer is
 // filled.
-pub struct Answered {
+pub struct AnsweredRecord {
     pub change: Change,
     pub put: usize,
 }
@@ -161,7 +161,7 @@ fn answer(
     map: &mut [u32],
     out: &mut [u8; ROOM],
     at: usize,
-) -> Answered
+) -> AnsweredRecord
     requires { ⌜ at + 105 ≤ 65536 ⌝ }
     ensures { λ r. ⌜ Answers (resultOf (commandOf call) (view (now (frames .entry)) (now (map .entry)) slot guest)) (now (frames .exit)) (now (map .exit))
         (now (out .entry)) at (now (out .exit)) r ⌝ }
@@ -169,7 +169,7 @@ fn answer(
     let decision = call.decide(slot, guest, frames, map);
     let change = decision.change;
     let answer = decision.answer;
-    Answered {
+    AnsweredRecord {
         change,
         put: Line::Answer(answer.numbers()).put(out, at),
     }

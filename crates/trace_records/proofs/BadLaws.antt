@@ -15,7 +15,7 @@ use Rattle.trace_kinds.specs.declared.kinds.Found.the-variants.{Known, Unknown}
 use Rattle.trace_records.specs.declared.decoding.Decoded.the-variants.{Bad, Unfinished}
 use Rattle.trace_kinds.specs.RecordKind.{version, kindOf, lengthOf, someLength, startHolds}
 use Rattle.trace_records.specs.Record.{bigEndian, askedIn, recordIn, decodeOf}
-use Rattle.trace_kinds.proofs.KindLaws.{length-at-most, length-some}
+use Rattle.trace_kinds.proofs.RecordKindLaws.{length-at-most, length-some}
 use Rattle.trace_records.proofs.DecodeLaws.{header, byHeader, Seen, few, enough, seen, by-start, four}
 
 no : {a : Bool} → a ≡ false → a ≡ true → ⊥

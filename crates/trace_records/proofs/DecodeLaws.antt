@@ -14,8 +14,8 @@ use Rattle.trace_records.specs.declared.decoding.Decoded.{Decoded}
 use Rattle.trace_records.specs.declared.decoding.Decoded.the-variants.{Record, Bad, Unfinished}
 use Rattle.trace_kinds.specs.RecordKind.{version, kindOf, lengthOf, startHolds}
 use Rattle.trace_records.specs.Record.{bigEndian, kindIn, askedIn, recordIn, decodeOf}
-use Rattle.trace_kinds.proofs.KindLaws.{length-at-most}
-use Rattle.trace_records.proofs.KindLaws.{asked-stays}
+use Rattle.trace_kinds.proofs.RecordKindLaws.{length-at-most}
+use Rattle.trace_records.proofs.AskedLaws.{asked-stays}
 
 -- the test of the first three bytes, for the length n of a kind
 abbrev pub header : ℕ → ℕ → ℕ → ℕ → Bool

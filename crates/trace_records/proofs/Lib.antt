@@ -1,5 +1,5 @@
 pub mod FieldLaws
-pub mod KindLaws
+pub mod AskedLaws
 pub mod DecodeLaws
 pub mod BadLaws
 pub mod UnfinishedLaws

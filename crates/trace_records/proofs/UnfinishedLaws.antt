@@ -16,7 +16,7 @@ use Rattle.trace_kinds.specs.declared.kinds.Found.the-variants.{Known, Unknown}
 use Rattle.trace_records.specs.declared.decoding.Decoded.the-variants.{Record, Bad, Unfinished}
 use Rattle.trace_kinds.specs.RecordKind.{version, kindOf, lengthOf, someLength, startHolds}
 use Rattle.trace_records.specs.Record.{bigEndian, askedIn, recordIn, decodeOf}
-use Rattle.trace_kinds.proofs.KindLaws.{Has, has, some-known}
+use Rattle.trace_kinds.proofs.RecordKindLaws.{Has, has, some-known}
 use Rattle.trace_records.proofs.DecodeLaws.{header, four, unfinished-by}
 
 -- bytes that make a good record of what is there

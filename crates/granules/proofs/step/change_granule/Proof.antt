@@ -6,7 +6,7 @@ use native.Mathlib.Omega.{arith}
 use lib.ListN.{getD}
 use Rattle.words.specs.FrameWord.{frameBits}
 use Rattle.granules.specs.Kind.{isShared}
-use Rattle.granules.proofs.ChangeLaws.{Framed, framed}
+use Rattle.granules.proofs.ChangeLaws.{FramePair, frame-pair}
 use Rattle.granules.proofs.KindLaws.{frame-of}
 use Rattle.granules.proofs.StepLaws.{beyond-row, differs, bare-left, bare-done, frame-done}
 use borrow.Author.Needs.{needs}
@@ -15,8 +15,8 @@ use Rattle.granules.proofs.step.change_granule.Tie as tie
 
 -- the words of a granule that has a frame
 words : (c : tie.After-frame) → let a = c .before .before .before .before .before .before .before .before .args in
-    Framed (a .frames .now) (a .slot) (a .granule .0) (getD (a .row .now) (a .granule .0) 0) (isShared (a .operation .needs)) (c .frame .given .0 .0)
-words c = framed _ _ _ _ _ _ (sym (frame-of _ _ _ (sym (c .frame .given .1) ∙ c .before .before .compare .ensures)))
+    FramePair (a .frames .now) (a .slot) (a .granule .0) (getD (a .row .now) (a .granule .0) 0) (isShared (a .operation .needs)) (c .frame .given .0 .0)
+words c = frame-pair _ _ _ _ _ _ (sym (frame-of _ _ _ (sym (c .frame .given .1) ∙ c .before .before .compare .ensures)))
 
 returns : tie.Need-returns
 returns c = beyond-row _ _ _ _ _ (c .if1 .taken)

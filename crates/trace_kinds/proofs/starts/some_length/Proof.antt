@@ -8,7 +8,7 @@ use lib.Dec.{eqb}
 use lib.ListN.{length, drop}
 use borrow.Author.Tests.{eq-eqb, ne-eqb}
 use Rattle.trace_kinds.specs.RecordKind.{kinds, someOf, someLength}
-use Rattle.trace_kinds.proofs.KindLaws.{some-step}
+use Rattle.trace_kinds.proofs.RecordKindLaws.{some-step}
 use borrow.Author.Needs.{needs}
 use Rattle.trace_kinds.proofs.starts.some_length.Statement.{statement}
 use Rattle.trace_kinds.proofs.starts.some_length.Tie as tie

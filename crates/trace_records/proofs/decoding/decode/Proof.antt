@@ -6,7 +6,7 @@ use lib.ListN.{length, getD}
 use borrow.Author.Tests.{lt-ltb, le-ltb}
 use Rattle.trace_records.specs.Record.{kindIn, recordIn, decodeOf}
 use Rattle.trace_kinds.specs.declared.kinds.Found.the-variants.{Known}
-use Rattle.trace_kinds.proofs.KindLaws.{length-at-most}
+use Rattle.trace_kinds.proofs.RecordKindLaws.{length-at-most}
 use Rattle.trace_records.proofs.DecodeLaws.{by-start, by-kind}
 use borrow.Author.Needs.{needs}
 use Rattle.trace_records.proofs.decoding.decode.Statement.{statement}

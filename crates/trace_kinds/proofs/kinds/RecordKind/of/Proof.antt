@@ -5,7 +5,7 @@ use lib.ListN.{List·getD-eq-default}
 use mathlib.Core.List.{map, _∷_}
 use Rattle.trace_kinds.specs.RecordKind.{kinds, kindOf}
 use Rattle.trace_kinds.specs.declared.kinds.Found.the-variants.{Known, Unknown}
-use Rattle.trace_kinds.proofs.KindLaws.{numbered}
+use Rattle.trace_kinds.proofs.RecordKindLaws.{numbered}
 use borrow.Author.Needs.{needs}
 use Rattle.trace_kinds.proofs.kinds.RecordKind.of.Statement.{statement}
 use Rattle.trace_kinds.proofs.kinds.RecordKind.of.Tie as tie
