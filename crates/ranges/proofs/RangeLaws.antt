@@ -14,10 +14,17 @@ use Rattle.runs.specs.Run.{Step, took, refuses, complete, refused, ended, after
 use Rattle.runs.proofs.Runs.{joins}
 use Rattle.granules.proofs.StepLaws.{beyond-row}
 use Rattle.granules.specs.Step.{Place, place, Refusal, isDamaged, notDone, rowStep, stopBy, oneEnd}
-use Rattle.ranges.specs.Range.{Going}
 use Rattle.granules.specs.declared.kinds.Operation.{Operation}
 use Rattle.granules.specs.declared.step.Outcome.{Outcome}
 use Rattle.granules.specs.declared.step.Outcome.the-variants as outcome
+
+-- the granules of slot v from g up to n are done, at most `limit`, and the words stand as here
+pub record Going (o : Operation) (v : ℕ) (row₀ frames₀ : List ℕ) (g limit : ℕ) (row frames : List ℕ) (n : ℕ) : Type 0 where
+  pub upward : g ≤ n
+  pub few : n - g ≤ limit
+  pub rows : length row ≡ length row₀
+  pub frame-words : length frames ≡ length frames₀
+  pub so : run (rowStep o v (length row₀)) (n - g) (place row₀ frames₀ g) ≡ ended (n - g) (place row frames n) complete
 
 -- a step that ends at once ends every run that it begins
 ends-all : (step : Place → Step Place Refusal) (n : ℕ) (s t : Place) (r : Refusal) → run step 1 s ≡ ended 0 t (refused r) → run step (suc n) s ≡ ended 0 t (refused r)

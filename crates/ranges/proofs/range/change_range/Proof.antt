@@ -9,8 +9,7 @@ use denote.Enum.Declared.{tagOf}
 use types.Run.{OneOf}
 use Rattle.granules.specs.declared.step.Outcome.the-variants as outcome
 use Rattle.granules.specs.declared.step.Outcome.{Outcome}
-use Rattle.ranges.specs.Range.{Going}
-use Rattle.ranges.proofs.RangeLaws.{begun, ran, more, stopped}
+use Rattle.ranges.proofs.RangeLaws.{Going, begun, ran, more, stopped}
 use borrow.Author.Needs.{needs}
 use Rattle.ranges.proofs.range.change_range.Statement.{statement}
 use Rattle.ranges.proofs.range.change_range.Tie as tie
