@@ -8,12 +8,14 @@ use Rattle.words.specs.declared.map_word.MapWord.{MapWord}
 use Rattle.words.specs.declared.map_word.MapWord.the-variants as map-word
 use Rattle.words.specs.declared.frame_word.FrameWord.the-variants as frame-word
 use Rattle.words.proofs.Booleans.{never}
-use Rattle.pairs.specs.Pair.{granuleState, frameNamesBack, granuleUndamaged, frameCompared}
+use Rattle.pairs.specs.Pair.{granuleState, frameNamesBack, granuleUndamaged}
+use Rattle.pairs.specs.Comparison.{frameCompared}
 use Rattle.pairs.specs.declared.pairs.GranuleState.{GranuleState}
 use Rattle.pairs.specs.declared.pairs.GranuleState.the-variants as granule-state
 use Rattle.pairs.specs.declared.pairs.Comparison.{Comparison}
 use Rattle.pairs.specs.declared.pairs.Comparison.the-variants as comparison
-use Rattle.granules.specs.Kind.{isOf, has, compared, hasFrame, isShared, isGuarded, wordWith, frameThen, GranuleChange, leaveDamaged, leaveOther, writeBare, writeFramed, bare, changeOf}
+use Rattle.granules.specs.Kind.{isOf, wordWith, frameThen, GranuleChange, leaveDamaged, leaveOther, writeBare, writeFramed, bare, changeOf}
+use Rattle.granules.specs.Comparison.{has, compared, hasFrame, isShared, isGuarded}
 use Rattle.granules.specs.declared.kinds.Kind.{Kind}
 use Rattle.granules.specs.declared.kinds.Kind.the-variants.{Vacant, Private, Shared, Guarded}
 use Rattle.granules.specs.declared.kinds.Operation.{Operation}

@@ -1,5 +1,5 @@
 -- A single step in the row, by the comparison of the granule with one of the kind that is needed.
-use mathlib.Core.Path.{_≡_, refl, sym, ap, _∙_}
+use mathlib.Core.Path.{_≡_, refl, _∙_}
 use mathlib.Core.Bool.{Bool, true, false, cond}
 use mathlib.Core.List.{List}
 use Prim.Native.Nat.{ℕ, _<_, _≤_}
@@ -15,8 +15,9 @@ use Rattle.pairs.specs.Pair.{granuleState, granuleUndamaged}
 use Rattle.pairs.specs.declared.pairs.GranuleState.{GranuleState}
 use Rattle.pairs.specs.declared.pairs.Comparison.{Comparison}
 use Rattle.pairs.specs.declared.pairs.Comparison.the-variants as comparison
-use Rattle.granules.specs.Kind.{compared, hasFrame, isShared, isGuarded, leaveDamaged, leaveOther, changeOf}
-use Rattle.granules.specs.Step.{place, written, stepFrom, rowStep, refusalOf, oneEnd}
+use Rattle.granules.specs.Kind.{leaveDamaged, leaveOther}
+use Rattle.granules.specs.Comparison.{compared, hasFrame, isShared, isGuarded, refusalOf}
+use Rattle.granules.specs.Step.{place, written, stepFrom, rowStep, oneEnd}
 use Rattle.granules.specs.declared.kinds.Operation.{Operation}
 use Rattle.granules.specs.declared.step.Outcome.{Outcome}
 use Rattle.granules.specs.declared.step.Outcome.the-variants as outcome

@@ -8,8 +8,6 @@ use Rattle.words.specs.declared.frame_word.FrameWord.{FrameWord}
 use Rattle.words.specs.declared.frame_word.FrameWord.the-variants as frame-word
 use Rattle.pairs.specs.declared.pairs.GranuleState.{GranuleState}
 use Rattle.pairs.specs.declared.pairs.GranuleState.the-variants as granule-state
-use Rattle.pairs.specs.declared.pairs.Comparison.{Comparison}
-use Rattle.pairs.specs.declared.pairs.Comparison.the-variants as comparison
 use Rattle.granules.specs.declared.kinds.Kind.{Kind}
 use Rattle.granules.specs.declared.kinds.Kind.the-variants.{Vacant, Private, Shared, Guarded}
 use Rattle.granules.specs.declared.kinds.Operation.{Operation}
@@ -49,35 +47,6 @@ isOf Vacant granule-state.Guarded = false
 isOf Private granule-state.Guarded = false
 isOf Shared granule-state.Guarded = false
 isOf Guarded granule-state.Guarded = true
-
--- a granule compared with one of a kind, and what it has where it is of that kind
-abbrev pub has : GranuleState → Comparison
-has granule-state.Vacant = comparison.Bare
-has (granule-state.Frame s f) = comparison.Frame f
-has granule-state.Guarded = comparison.Bare
-has granule-state.Damaged = comparison.Differs
-
-abbrev pub compared : Kind → GranuleState → Comparison
-compared k s = cond (isOf k s) (has s) comparison.Differs
-
--- whether a granule of a kind has a frame, and whether that is shared; and whether one without a frame is guarded
-abbrev pub hasFrame : Kind → Bool
-hasFrame Vacant = false
-hasFrame Private = true
-hasFrame Shared = true
-hasFrame Guarded = false
-
-abbrev pub isShared : Kind → Bool
-isShared Vacant = false
-isShared Private = false
-isShared Shared = true
-isShared Guarded = false
-
-abbrev pub isGuarded : Kind → Bool
-isGuarded Vacant = false
-isGuarded Private = false
-isGuarded Shared = false
-isGuarded Guarded = true
 
 -- the map word of a granule with frame f that becomes of a kind
 abbrev pub wordWith : Kind → ℕ → MapWord

@@ -8,8 +8,7 @@ use Rattle.runs.specs.Run.{Step, took, refuses, Stop, complete, refused, End, e
 use Rattle.words.specs.MapWord.{mapBits, mapWordOf}
 use Rattle.words.specs.FrameWord.{frameBits}
 use Rattle.tables.specs.Length.{widthOf}
-use Rattle.pairs.specs.Pair.{granuleState, granuleUndamaged}
-use Rattle.pairs.specs.declared.pairs.GranuleState.{GranuleState}
+use Rattle.pairs.specs.Pair.{granuleState}
 use Rattle.granules.specs.Kind.{wordWith, frameThen, GranuleChange, leaveDamaged, leaveOther, writeBare, writeFramed, changeOf}
 use Rattle.granules.specs.declared.kinds.Kind.{Kind}
 use Rattle.granules.specs.declared.kinds.Operation.{Operation}
@@ -48,10 +47,6 @@ rowStep o v width = stepFrom o v 0 width
 -- the same in the whole map table
 abbrev pub tableStep : Operation → ℕ → Place → Step Place Refusal
 tableStep o v (place map frames g) = stepFrom o v (v * widthOf (length map)) (widthOf (length map)) (place map frames g)
-
--- how a step ends at a granule that it leaves
-abbrev pub refusalOf : GranuleState → Outcome
-refusalOf s = cond (granuleUndamaged s) outcome.Refused outcome.Damaged
 
 -- what the code's outcome says
 abbrev pub stopBy : Outcome → Stop Refusal

@@ -1,5 +1,5 @@
 ghost use mathlib.Core.Path.{_≡_};
-ghost use Rattle.granules.specs.Kind.{hasFrame, isShared, isGuarded};
+ghost use Rattle.granules.specs.Comparison.{hasFrame, isShared, isGuarded};
 
 // The kind of a granule that is not damaged.
 pub enum Kind {

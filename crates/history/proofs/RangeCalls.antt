@@ -12,7 +12,8 @@ use Rattle.answers.specs.Answer.{numbersOf}
 use Rattle.records.specs.Monitor.{guestOf}
 use Rattle.commands.specs.Command.{effected}
 use Rattle.commands.specs.State.{State, state}
-use Rattle.granules.specs.Kind.{hasFrame, bare, frameThen}
+use Rattle.granules.specs.Kind.{bare, frameThen}
+use Rattle.granules.specs.Comparison.{hasFrame}
 use Rattle.granules.specs.Step.{Place, place, Refusal, isDamaged, notDone, tableStep}
 use Rattle.granules.specs.declared.kinds.Operation.{Operation}
 use Rattle.functions.specs.Function.{askedBy}

@@ -22,7 +22,8 @@ use Rattle.records.specs.Monitor.{guestOf}
 use Rattle.commands.specs.State.{State, state}
 use Rattle.records.specs.declared.guest.Guest.{Guest}
 use Rattle.records.specs.declared.monitor.Monitor.{Monitor}
-use Rattle.granules.specs.Kind.{hasFrame, wordWith, frameThen, writeBare, writeFramed, changeOf}
+use Rattle.granules.specs.Kind.{wordWith, frameThen, writeBare, writeFramed, changeOf}
+use Rattle.granules.specs.Comparison.{hasFrame}
 use Rattle.granules.specs.Step.{Place, place, tableStep}
 use Rattle.granules.specs.declared.kinds.Kind.{Kind}
 use Rattle.granules.specs.declared.kinds.Kind.the-variants.{Vacant, Private, Shared, Guarded}

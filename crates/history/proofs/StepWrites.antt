@@ -17,7 +17,8 @@ use Rattle.pairs.specs.Pair.{granuleState}
 use Rattle.pairs.specs.declared.pairs.GranuleState.{GranuleState}
 use Rattle.pairs.specs.declared.pairs.GranuleState.the-variants as granule-state
 use Rattle.pairs.proofs.Found.{mapWordBy}
-use Rattle.granules.specs.Kind.{hasFrame, wordWith, frameThen, GranuleChange, leaveDamaged, leaveOther, writeBare, writeFramed, changeOf, isOf, bare}
+use Rattle.granules.specs.Kind.{wordWith, frameThen, GranuleChange, leaveDamaged, leaveOther, writeBare, writeFramed, changeOf, isOf, bare}
+use Rattle.granules.specs.Comparison.{hasFrame}
 use Rattle.granules.specs.Step.{Place, place, written, stepFrom, tableStep}
 use Rattle.granules.specs.declared.kinds.Operation.{Operation}
 use Rattle.granules.specs.declared.kinds.Kind.{Kind}

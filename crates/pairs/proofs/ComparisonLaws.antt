@@ -7,13 +7,14 @@ use native.Mathlib.Omega.{arith}
 use borrow.Author.Tests.{eq-eqb, eqb-true, le-ltb}
 use lib.Dec.{eqb}
 use lib.ListN.{length, getD}
-use Rattle.words.specs.MapWord.{mapWordOf, namesFrame, isBare}
+use Rattle.words.specs.MapWord.{mapWordOf, namesFrame}
 use Rattle.words.specs.FrameWord.{frameWordOf, namesGranule}
 use Rattle.words.specs.declared.map_word.MapWord.{MapWord}
 use Rattle.words.specs.declared.map_word.MapWord.the-variants as map-word
-use Rattle.words.proofs.Booleans.{beq-true, beq-self}
+use Rattle.words.proofs.Booleans.{beq-self}
 use Rattle.words.proofs.MapWordLaws.{MapFits, map-fits, named-frame}
-use Rattle.pairs.specs.Pair.{frameNamesBack, granuleState, frameCompared}
+use Rattle.pairs.specs.Pair.{frameNamesBack, granuleState}
+use Rattle.pairs.specs.Comparison.{frameCompared}
 use Rattle.pairs.specs.declared.pairs.GranuleState.the-variants as granule-state
 use Rattle.pairs.specs.declared.pairs.Comparison.the-variants as comparison
 use Rattle.pairs.proofs.PairLaws.{frame-tested}

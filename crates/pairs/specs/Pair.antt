@@ -1,7 +1,7 @@
 -- Document 01, "Tables": "A word that names a partner (a map word its frame, a frame word its owner's granule) must be named back by it,
 -- with the same shared or private; else both are damaged, to a call that looks from that word to its partner. What any third word
 -- names doesn't count."
-use mathlib.Core.Bool.{Bool, true, false, cond, _&&_, Bool·beq}
+use mathlib.Core.Bool.{Bool, true, false, cond, _&&_}
 use mathlib.Core.List.{List}
 use Prim.Native.Nat.{ℕ}
 use lib.Dec.{ltb}
@@ -16,8 +16,6 @@ use Rattle.tables.specs.Length.{widthOf}
 use Rattle.tables.specs.Row.{wordAt}
 use Rattle.pairs.specs.declared.pairs.GranuleState.{GranuleState}
 use Rattle.pairs.specs.declared.pairs.GranuleState.the-variants as granule-state
-use Rattle.pairs.specs.declared.pairs.Comparison.{Comparison}
-use Rattle.pairs.specs.declared.pairs.Comparison.the-variants as comparison
 use Rattle.pairs.specs.declared.pairs.FrameState.{FrameState}
 use Rattle.pairs.specs.declared.pairs.FrameState.the-variants as frame-state
 
@@ -81,10 +79,3 @@ frameWaiting frame-state.Host = false
 frameWaiting frame-state.Waiting = true
 frameWaiting (frame-state.Owned v s g) = false
 frameWaiting frame-state.Damaged = false
-
--- a granule compared with one that is private or shared, as told
-abbrev pub frameCompared : Bool → GranuleState → Comparison
-frameCompared s granule-state.Vacant = comparison.Differs
-frameCompared s (granule-state.Frame t f) = cond (Bool·beq s t) (comparison.Frame f) comparison.Differs
-frameCompared s granule-state.Guarded = comparison.Differs
-frameCompared s granule-state.Damaged = comparison.Differs

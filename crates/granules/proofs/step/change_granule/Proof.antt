@@ -5,7 +5,7 @@ use mathlib.Core.Bool.{true, false}
 use native.Mathlib.Omega.{arith}
 use lib.ListN.{getD}
 use Rattle.words.specs.FrameWord.{frameBits}
-use Rattle.granules.specs.Kind.{isShared}
+use Rattle.granules.specs.Comparison.{isShared}
 use Rattle.granules.proofs.ChangeLaws.{FramePair, frame-pair}
 use Rattle.granules.proofs.KindLaws.{frame-of}
 use Rattle.granules.proofs.StepLaws.{beyond-row, differs, bare-left, bare-done, frame-done}
