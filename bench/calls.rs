@@ -145,8 +145,18 @@ impl Work {
                 library: library_remove,
                 plain: plain_remove,
             },
-            Self::range("share of 64 granules", 1.1, SHARE, Lent::full_row(|_| false)),
-            Self::range("unshare of 64 granules", 1.1, UNSHARE, Lent::full_row(|_| true)),
+            Self::range(
+                "share of 64 granules",
+                1.1,
+                SHARE,
+                Lent::full_row(|_| false),
+            ),
+            Self::range(
+                "unshare of 64 granules",
+                1.1,
+                UNSHARE,
+                Lent::full_row(|_| true),
+            ),
             Self::range(
                 "range guard map of 64",
                 1.05,
@@ -236,7 +246,9 @@ fn main() -> ExitCode {
     for work in &works {
         figures::print_times(work.name, ["library", "plain Rust"], &work.time(), work.aim);
     }
-    println!("Tables filled again before each removal and each pass of 64 calls, outside the time;");
+    println!(
+        "Tables filled again before each removal and each pass of 64 calls, outside the time;"
+    );
     println!("both built for release. {ROUNDS} rounds, the order of the two changed each time.");
     ExitCode::SUCCESS
 }
