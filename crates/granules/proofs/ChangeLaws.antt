@@ -1,16 +1,14 @@
--- A change that writes a frame comes of a granule that names it, and is named back: so the frame is in the table, and all have room in a word.
+-- A change that writes a frame comes of a granule that names it, and is named back: so the frame is in the table.
 use mathlib.Core.Path.{_≡_, sym, _∙_}
 use mathlib.Core.Bool.{Bool, true, false, cond}
 use mathlib.Core.List.{List}
-use Prim.Native.Nat.{ℕ, _<_, _^_}
+use Prim.Native.Nat.{ℕ, _<_}
 use native.Mathlib.Omega.{arith}
 use lib.ListN.{length, getD}
 use Rattle.words.specs.MapWord.{mapWordOf}
 use Rattle.words.specs.FrameWord.{frameWordOf}
 use Rattle.words.specs.declared.map_word.MapWord.the-variants as map-word
 use Rattle.words.specs.declared.frame_word.FrameWord.the-variants as frame-word
-use Rattle.words.proofs.MapWordLaws.{map-fits}
-use Rattle.words.proofs.FrameWordLaws.{frame-fits}
 use Rattle.pairs.specs.Pair.{granuleState}
 use Rattle.pairs.specs.declared.pairs.GranuleState.{GranuleState}
 use Rattle.pairs.specs.declared.pairs.GranuleState.the-variants as granule-state
@@ -42,16 +40,6 @@ with-frame o (granule-state.Frame s h) f e = (s, rw (same-frame (isOf (o .needs)
 with-frame o granule-state.Guarded f e = absurd (not-bare (isOf (o .needs) granule-state.Guarded) (o .makes) f e)
 with-frame o granule-state.Damaged f e = let z : _≡_ {A = ℕ} 0 1 = cc in absurd (omega arith)
 
--- what holds of a frame that is to be written
-pub record Writable (frames : List ℕ) (v g w f : ℕ) : Type 0 where
-  pub sharing : Bool
-  pub word : mapWordOf w ≡ map-word.Frame sharing f
-  pub owner : frameWordOf (getD frames f 0) ≡ frame-word.Owned v sharing g
-  pub inside : f < length frames
-  pub frame : f < 2 ^ 16
-  pub slot : v < 8
-  pub granule : g < 2 ^ 16
-
 -- what holds of a granule that has frame f
 pub record FramePair (frames : List ℕ) (v g w : ℕ) (s : Bool) (f : ℕ) : Type 0 where
   pub word : mapWordOf w ≡ map-word.Frame s f
@@ -65,17 +53,5 @@ frame-pair frames v g w s f e =
     record { word = says; owner = names .1; inside = names .0 }
 
 pub writable : (o : Operation) (frames : List ℕ) (v g w : ℕ) (k : GranuleState) → k ≡ granuleState frames v g (mapWordOf w) → (f : ℕ) → writeFramed f ≡ changeOf o k
-    → Writable frames v g w f
-writable o frames v g w k e f d =
-    let p = with-frame o k f d in
-    let h = frame-pair frames v g w (p .0) f (sym (p .1) ∙ e) in
-    let fits = rw (h .owner) at (frame-fits (getD frames f 0)) in
-    record {
-      sharing = p .0;
-      word = h .word;
-      owner = h .owner;
-      inside = h .inside;
-      frame = rw (h .word) at (map-fits w);
-      slot = fits .0;
-      granule = fits .1;
-    }
+    → (s : Bool) × FramePair frames v g w s f
+writable o frames v g w k e f d = let p = with-frame o k f d in (p .0, frame-pair frames v g w (p .0) f (sym (p .1) ∙ e))

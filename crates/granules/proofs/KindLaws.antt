@@ -15,7 +15,7 @@ use Rattle.pairs.specs.declared.pairs.GranuleState.the-variants as granule-stat
 use Rattle.pairs.specs.declared.pairs.Comparison.{Comparison}
 use Rattle.pairs.specs.declared.pairs.Comparison.the-variants as comparison
 use Rattle.granules.specs.Kind.{isOf, wordWith, frameThen, GranuleChange, leaveDamaged, leaveOther, writeBare, writeFramed, bare, changeOf}
-use Rattle.granules.specs.Comparison.{has, compared, hasFrame, isShared, isGuarded}
+use Rattle.granules.specs.Comparison.{heldBy, compared, hasFrame, isShared, isGuarded}
 use Rattle.granules.specs.declared.kinds.Kind.{Kind}
 use Rattle.granules.specs.declared.kinds.Kind.the-variants.{Vacant, Private, Shared, Guarded}
 use Rattle.granules.specs.declared.kinds.Operation.{Operation}
@@ -77,7 +77,7 @@ frame-of k s f e = go s (isOf k s) refl e
     sharing Shared t h = h
     sharing Guarded t h = never h
 
-    go : (s : GranuleState) (b : Bool) → isOf k s ≡ b → comparison.Frame f ≡ cond b (has s) comparison.Differs → s ≡ granule-state.Frame (isShared k) f
+    go : (s : GranuleState) (b : Bool) → isOf k s ≡ b → comparison.Frame f ≡ cond b (heldBy s) comparison.Differs → s ≡ granule-state.Frame (isShared k) f
     go granule-state.Vacant true q e = cc
     go (granule-state.Frame t h) true q e = let same : f ≡ h = cc in rw (same, sharing k t (rw same q))
     go granule-state.Guarded true q e = cc
@@ -93,7 +93,7 @@ pub change-compared : (o : Operation) (s : GranuleState) → changeOf o s ≡ ch
 unfolding changeOf
 change-compared o s = go s
   where
-    of-kind : (s : GranuleState) → granuleUndamaged s ≡ true → (b : Bool) → cond b (changeBy (o .makes) s (has s)) leaveOther ≡ changeBy (o .makes) s (cond b (has s) comparison.Differs)
+    of-kind : (s : GranuleState) → granuleUndamaged s ≡ true → (b : Bool) → cond b (changeBy (o .makes) s (heldBy s)) leaveOther ≡ changeBy (o .makes) s (cond b (heldBy s) comparison.Differs)
     of-kind s h true = refl
     of-kind s h false = rw h
 

@@ -11,15 +11,15 @@ use Rattle.granules.specs.declared.kinds.Kind.the-variants.{Vacant, Priv
 use Rattle.granules.specs.declared.step.Outcome.{Outcome}
 use Rattle.granules.specs.declared.step.Outcome.the-variants as outcome
 
--- a granule compared with one of a kind, and what it has where it is of that kind
-abbrev pub has : GranuleState → Comparison
-has granule-state.Vacant = comparison.Bare
-has (granule-state.Frame s f) = comparison.Frame f
-has granule-state.Guarded = comparison.Bare
-has granule-state.Damaged = comparison.Differs
+-- what a granule holds that is of the kind asked for; and a granule compared with one of a kind
+abbrev pub heldBy : GranuleState → Comparison
+heldBy granule-state.Vacant = comparison.Bare
+heldBy (granule-state.Frame s f) = comparison.Frame f
+heldBy granule-state.Guarded = comparison.Bare
+heldBy granule-state.Damaged = comparison.Differs
 
 abbrev pub compared : Kind → GranuleState → Comparison
-compared k s = cond (isOf k s) (has s) comparison.Differs
+compared k s = cond (isOf k s) (heldBy s) comparison.Differs
 
 -- whether a granule of a kind has a frame, and whether that is shared; and whether one without a frame is guarded
 abbrev pub hasFrame : Kind → Bool

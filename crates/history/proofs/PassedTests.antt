@@ -1,4 +1,4 @@
--- What calls look at, in states that keep the invariant.
+-- What a passed test says of the words, in states that keep the invariant; and tests that all such states pass.
 use mathlib.Core.Path.{_≡_, refl}
 use mathlib.Core.Bool.{true}
 use Prim.Native.Nat.{ℕ, _<_}

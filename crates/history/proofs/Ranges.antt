@@ -107,9 +107,9 @@ module _ (F W : ℕ) (m : Monitor) (o : Operation) (v : ℕ) (hv : v < 8) (may :
     frame-done f e =
         let k = writable o frames v g (wordAt map v g) found refl f e in
         let is-frame = with-frame o found f e in
-        let says : look W s v g ≡ map-word.Frame (k .sharing) f = sym seen ∙ k .word in
-        let inside : f < F = omega (arith, k .inside, i .sized .frame-words) in
-        let old : NameOnlyEachOther v g f (own s f) (look W s v g) = rw (k .owner, says) (pair-named v g f (k .sharing)) in
+        let says : look W s v g ≡ map-word.Frame (k .0) f = sym seen ∙ k .1 .word in
+        let inside : f < F = omega (arith, k .1 .inside, i .sized .frame-words) in
+        let old : NameOnlyEachOther v g f (own s f) (look W s v g) = rw (k .1 .owner, says) (pair-named v g f (k .0)) in
         let made = frameThen (o .makes) in
         let d = made v g in
         let w = wordWith (o .makes) f in
@@ -120,10 +120,10 @@ module _ (F W : ℕ) (m : Monitor) (o : Operation) (v : ℕ) (hv : v < 8) (may :
           sound = rw (width-is (i .sized)) (put .sound);
           owners = λ j h.
               at-or-not (λ x. x < F → own t x ≡ ownerWhere (among v g 1) made (own s x)) f j
-              (λ l. put .frame ∙ sym (ap (ownerWhere (among v g 1) made) (k .owner) ∙ owner-where-here made v (k .sharing) g))
+              (λ l. put .frame ∙ sym (ap (ownerWhere (among v g 1) made) (k .1 .owner) ∙ owner-where-here made v (k .0) g))
               (λ n l.
               put .frames j n
-              ∙ sym (owner-where-elsewhere made v g (own s j) (λ b q. n (one-frame (look W s v g) (k .sharing) b f j says (i .says v b g j l q .2)))))
+              ∙ sym (owner-where-elsewhere made v g (own s j) (λ b q. n (one-frame (look W s v g) (k .0) b f j says (i .says v b g j l q .2)))))
               h;
           same = λ q. never (sym q ∙ framed o (is-frame .0) f (rw (← (is-frame .1)) e));
         }

@@ -1,4 +1,4 @@
--- What the pair test finds of a granule that is expected to be private or shared.
+-- How a granule compares with one that is private or shared.
 use mathlib.Core.Bool.{Bool, cond, Bool·beq}
 use Rattle.pairs.specs.declared.pairs.GranuleState.{GranuleState}
 use Rattle.pairs.specs.declared.pairs.GranuleState.the-variants as granule-state

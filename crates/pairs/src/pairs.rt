@@ -122,8 +122,8 @@ pub fn granule_state(frames: &[u32], slot: usize, granule: Granule, word: u32) -
     }
 }
 
-// The pair test of a granule that is expected to be private or shared, as told: its two words are compared with those of such a granule,
-// and not taken apart further.
+// A granule compared with one that is private or shared, as told: by the frame in its map word, and by whether that frame's word names the
+// granule back.
 pub fn compare_frame(
     frames: &[u32],
     slot: usize,

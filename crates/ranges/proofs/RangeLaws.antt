@@ -57,11 +57,11 @@ module _ {o : Operation} {v : ℕ} {row₀ frames₀ : List ℕ} {g limit : ℕ}
           let whole : limit ≡ n - g + suc m = omega arith in
           rw whole (left (suc m) ∙ ap (after (n - g)) (ends-all (rowStep o v (length row)) m (place row frames n) (place row′ frames′ n) r e) ∙ rw add-zero)
 
-      pub stopped : (r : Outcome) → (r ≡ outcome.Done → ⊥) → run (rowStep o v (length row)) 1 (place row frames n) ≡ oneEnd r row′ frames′ n
+      pub refused-there : (r : Outcome) → (r ≡ outcome.Done → ⊥) → run (rowStep o v (length row)) 1 (place row frames n) ≡ oneEnd r row′ frames′ n
           → run (rowStep o v (length row₀)) limit (place row₀ frames₀ g) ≡ ended (n - g) (place row′ frames′ n) (stopBy r)
-      stopped outcome.Done d e = absurd (d refl)
-      stopped outcome.Refused d e = halted notDone e
-      stopped outcome.Damaged d e = halted isDamaged e
+      refused-there outcome.Done d e = absurd (d refl)
+      refused-there outcome.Refused d e = halted notDone e
+      refused-there outcome.Damaged d e = halted isDamaged e
 
     -- it came to the limit, or to the row's end
     pub ran : (n - g < limit → length row ≤ n) → run (rowStep o v (length row₀)) limit (place row₀ frames₀ g)

@@ -11,7 +11,7 @@ use Rattle.trace_records.specs.declared.decoding.Decoded.{Decoded}
 use Rattle.trace_records.specs.declared.decoding.Decoded.the-variants.{Record, Bad, Unfinished}
 use Rattle.trace_records.proofs.DecodeLaws.{record-size, record-stays}
 use Rattle.trace_records.proofs.BadLaws.{bad-stays}
-use Rattle.trace.specs.Replay.{Replay, replay, Advance, advance, advanceBy, unlessStopped, advanceOf, Outcome, outcome, textBefore, readOn, recordByRecord, outcomeOf}
+use Rattle.trace.specs.Replay.{Replay, replay, Advance, advance, advanceBy, unlessStopped, advanceOf, ReplayOutcome, outcome, textBefore, readOn, recordByRecord, outcomeOf}
 
 -- what a record comes to, by what the bytes are
 pub advance-stopped : (r : Replay) (s : List ℕ) → r .stopped ≡ true → advanceOf r s ≡ advance r (length s) [] false
@@ -45,7 +45,7 @@ nothing-by (suc k) r false e = rw e
 nothing : (k : ℕ) (r : Replay) → recordByRecord k r [] ≡ outcome [] r []
 nothing k r = nothing-by k r (r .stopped) refl
 
-goes-same : (b : Bool) (f g : Replay → List ℕ → Outcome) (a : Advance) (s : List ℕ)
+goes-same : (b : Bool) (f g : Replay → List ℕ → ReplayOutcome) (a : Advance) (s : List ℕ)
     → (b ≡ true → f (a .left) (drop (a .taken) s) ≡ g (a .left) (drop (a .taken) s))
     → readOn b f a s ≡ readOn b g a s
 goes-same true f g a s h = rw (h refl)

@@ -61,29 +61,29 @@ unfoldable pub advanceOf : Replay → List ℕ → Advance
 advanceOf r s = unlessStopped (r .stopped) r s (decodeOf s)
 
 -- what some bytes come to: the text of their records, what is kept then, and the bytes of a record that is not finished
-pub record Outcome : Type 0 where
+pub record ReplayOutcome : Type 0 where
   pub text : List ℕ
   pub left : Replay
   pub rest : List ℕ
 
-abbrev pub outcome : List ℕ → Replay → List ℕ → Outcome
+abbrev pub outcome : List ℕ → Replay → List ℕ → ReplayOutcome
 outcome t r s = record { text = t; left = r; rest = s }
 
 -- the same with a text before it
-abbrev pub textBefore : List ℕ → Outcome → Outcome
+abbrev pub textBefore : List ℕ → ReplayOutcome → ReplayOutcome
 textBefore t o = outcome (t ++ o .text) (o .left) (o .rest)
 
-abbrev pub readOn : Bool → (Replay → List ℕ → Outcome) → Advance → List ℕ → Outcome
+abbrev pub readOn : Bool → (Replay → List ℕ → ReplayOutcome) → Advance → List ℕ → ReplayOutcome
 readOn true more a s = textBefore (a .text) (more (a .left) (drop (a .taken) s))
 readOn false more a s = outcome (a .text) (a .left) (drop (a .taken) s)
 
 -- record by record; the first number is fuel, one for each record
-abbrev pub recordByRecord : ℕ → Replay → List ℕ → Outcome
+abbrev pub recordByRecord : ℕ → Replay → List ℕ → ReplayOutcome
 recordByRecord zero r s = outcome [] r s
 recordByRecord (suc k) r s = let a = advanceOf r s in readOn (a .more) (λ t b. recordByRecord k t b) a s
 
 -- a record has a byte at least, so the bytes are fuel enough
-unfoldable pub outcomeOf : Replay → List ℕ → Outcome
+unfoldable pub outcomeOf : Replay → List ℕ → ReplayOutcome
 outcomeOf r s = recordByRecord (length s) r s
 
 -- the last lines, with n records answered and k bytes left: "A short record .. prints `bad`"; "the last line still follows"

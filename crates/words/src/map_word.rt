@@ -18,7 +18,7 @@ impl MapWord {
     pub const GUARDED: u32 = 0xC000_0000;
 
     // A word has room for the frames below this number.
-    const FRAMES: usize = 0x1_0000;
+    const FRAME_LIMIT: usize = 0x1_0000;
 
     // A word taken apart. The kind is the top two bits, the frame the low 16; no bit between them may be set.
     pub fn of(word: u32) -> MapWord
@@ -65,7 +65,7 @@ impl MapWord {
     pub fn names(word: u32, shared: bool, frame: usize) -> bool
         ensures { λ r. ⌜ r ≡ namesFrame shared frame (mapWordOf word) ⌝ }
     {
-        if frame < MapWord::FRAMES {
+        if frame < MapWord::FRAME_LIMIT {
             word == MapWord::of_frame(shared, frame)
         } else {
             false
@@ -76,15 +76,15 @@ impl MapWord {
     pub fn nameable(frames: usize) -> usize
         ensures { λ r. ⌜ r ≡ min (2 ^ 16) frames ⌝ }
     {
-        if frames < MapWord::FRAMES {
+        if frames < MapWord::FRAME_LIMIT {
             frames
         } else {
-            MapWord::FRAMES
+            MapWord::FRAME_LIMIT
         }
     }
 
     // The frame in a word that says one, private or shared as told: what is left when the bits of that kind are taken off. Of any other
-    // word more is left than a frame has bits.
+    // word, 65,536 or more is left.
     pub fn frame_in(word: u32, shared: bool) -> usize
         ensures { λ r. ⌜ ((f : ℕ) → f < 2 ^ 16 → eqb r f ≡ namesFrame shared f (mapWordOf word)) ⌝ }
     {

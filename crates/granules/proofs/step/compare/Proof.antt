@@ -1,4 +1,4 @@
--- By the pair test where the kind has a frame, and by the map word where it has none.
+-- By `compare_frame` where the kind has a frame, and by the map word where it has none.
 use mathlib.Core.Path.{sym, _∙_}
 use mathlib.Core.Bool.{true, false}
 use Rattle.words.specs.MapWord.{mapWordOf}

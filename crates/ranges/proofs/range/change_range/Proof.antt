@@ -9,7 +9,7 @@ use denote.Enum.Declared.{tagOf}
 use types.Run.{OneOf}
 use Rattle.granules.specs.declared.step.Outcome.the-variants as outcome
 use Rattle.granules.specs.declared.step.Outcome.{Outcome}
-use Rattle.ranges.proofs.RangeLaws.{Going, begun, ran, more, stopped}
+use Rattle.ranges.proofs.RangeLaws.{Going, begun, ran, more, refused-there}
 use borrow.Author.Needs.{needs}
 use Rattle.ranges.proofs.range.change_range.Statement.{statement}
 use Rattle.ranges.proofs.range.change_range.Tie as tie
@@ -20,11 +20,11 @@ not-done outcome.Refused h e = let z : _≡_ {A = ℕ} 0 1 = cc in omega arith
 not-done outcome.Damaged h e = let z : _≡_ {A = ℕ} 0 1 = cc in omega arith
 
 abbrev Inv-loop : tie.InvT-loop
-Inv-loop row₀ frames₀ slot count operation limit start granules end number₀ row frames number =
+Inv-loop row₀ frames₀ slot count operation limit start width end number₀ row frames number =
     Going operation slot row₀ frames₀ start limit row frames number × (number ≤ end)
 
 abbrev μ-loop : tie.MeasureT-loop
-μ-loop row₀ frames₀ slot count operation limit start granules end number₀ row frames number = end - number
+μ-loop row₀ frames₀ slot count operation limit start width end number₀ row frames number = end - number
 
 returns : tie.Need-returns Inv-loop μ-loop
 returns c =
@@ -54,7 +54,7 @@ returns-2 c =
     let start = l .before .before .before .before .before .before .args .first .0 in
     let there : start + (l .loop .number - start) ≡ l .loop .number = omega (arith, i .upward) in
     rw (there, ← l .before .before .before .least .ensures)
-    (stopped i (omega (arith, l .before .least2 .ensures)) (step .result) (not-done (step .result) (c .match .keys2)) (step .ensures))
+    (refused-there i (omega (arith, l .before .least2 .ensures)) (step .result) (not-done (step .result) (c .match .keys2)) (step .ensures))
 
 returns-3 : tie.Need-returns-3 Inv-loop μ-loop
 returns-3 c =
