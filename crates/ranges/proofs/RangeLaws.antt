@@ -57,18 +57,23 @@ module _ {o : Operation} {v : ℕ} {row₀ frames₀ : List ℕ} {g limit : ℕ}
           let whole : limit ≡ n - g + suc m = omega arith in
           rw whole (left (suc m) ∙ ap (after (n - g)) (ends-all (rowStep o v (length row)) m (place row frames n) (place row′ frames′ n) r e) ∙ rw add-zero)
 
-      pub refused-there : (r : Outcome) → (r ≡ outcome.Done → ⊥) → run (rowStep o v (length row)) 1 (place row frames n) ≡ oneEnd r row′ frames′ n
+      halted-by : (r : Outcome) → (r ≡ outcome.Done → ⊥) → run (rowStep o v (length row)) 1 (place row frames n) ≡ oneEnd r row′ frames′ n
           → run (rowStep o v (length row₀)) limit (place row₀ frames₀ g) ≡ ended (n - g) (place row′ frames′ n) (stopBy r)
-      refused-there outcome.Done d e = absurd (d refl)
-      refused-there outcome.Refused d e = halted notDone e
-      refused-there outcome.Damaged d e = halted isDamaged e
+      halted-by outcome.Done q e = absurd (q refl)
+      halted-by outcome.Refused q e = halted notDone e
+      halted-by outcome.Damaged q e = halted isDamaged e
 
-    -- it came to the limit, or to the row's end
-    pub ran : (n - g < limit → length row ≤ n) → run (rowStep o v (length row₀)) limit (place row₀ frames₀ g)
-        ≡ ended (n - g) (place row frames n) (stopBy (cond (ltb (n - g) limit) outcome.Refused outcome.Done))
-    ran b = go (decLt (n - g) limit)
+      -- d granules are done, and the next is refused
+      pub refused-there : (d : ℕ) → d ≡ n - g → (r : Outcome) → (r ≡ outcome.Done → ⊥) → run (rowStep o v (length row)) 1 (place row frames n) ≡ oneEnd r row′ frames′ n
+          → run (rowStep o v (length row₀)) limit (place row₀ frames₀ g) ≡ ended d (place row′ frames′ (g + d)) (stopBy r)
+      refused-there d same r q e = let there : g + d ≡ n = omega (arith, i .upward) in rw (there, same) (halted-by r q e)
+
+    -- d granules are done, and it came to the limit or to the row's end
+    pub ran : (d : ℕ) → d ≡ n - g → (n - g < limit → length row ≤ n) → run (rowStep o v (length row₀)) limit (place row₀ frames₀ g)
+        ≡ ended d (place row frames (g + d)) (stopBy (cond (ltb d limit) outcome.Refused outcome.Done))
+    ran d same b = let there : g + d ≡ n = omega (arith, i .upward) in rw (there, same) (go (decLt (n - g) limit))
       where
         go : Dec (n - g < limit) → run (rowStep o v (length row₀)) limit (place row₀ frames₀ g)
             ≡ ended (n - g) (place row frames n) (stopBy (cond (ltb (n - g) limit) outcome.Refused outcome.Done))
         go (yes h) = rw (lt-ltb (n - g) limit h) (halted h notDone (beyond-row o v n row frames (b h)))
-        go (no d) = let all : limit ≡ n - g = omega (arith, i .few) in rw (le-ltb (n - g) limit (omega arith), all) (i .so)
+        go (no q) = let all : limit ≡ n - g = omega (arith, i .few) in rw (le-ltb (n - g) limit (omega arith), all) (i .so)

@@ -1,6 +1,6 @@
 -- Beyond the row it is refused. Else by the comparison of the granule with the kind that is needed: what it has is written, or the pair test
 -- says why nothing is.
-use mathlib.Core.Path.{refl, sym, _∙_}
+use mathlib.Core.Path.{_≡_, refl, sym, _∙_}
 use mathlib.Core.Bool.{true, false}
 use native.Mathlib.Omega.{arith}
 use lib.ListN.{getD}
@@ -42,9 +42,12 @@ returns-3 : tie.Need-returns-3
 returns-3 c =
     let a = c .before .before .before .before .before .before .before .before .before .before .before .before .before .before .before .before .args in
     let w = words (c .before .before .before .before .before .before .before .before) in
+    let from : c .before .before .before .before .is-shared .result ≡ isShared (a .operation .needs) = c .before .before .before .before .is-shared .ensures in
+    let says = rw (← from) at (w .word) in
+    let owns = rw (← from) at (w .owner) in
     frame-done _ _ _ (a .row .now) _ (c .before .before .before .before .before .before .before .before .before .before .before .before .before .if1 .left) _ (c .before .before .before .before .before .before .before .before .before .before .compare .ensures) _ (c .before .before .before .before .before .before .before .before .frame .given .1) true (sym (c .before .before .before .before .before .before .has-frame2 .ensures) ∙ c .before .before .before .before .before .if3 .taken) _ _
-    (rw (c .before .before .before .is-shared2 .ensures) at (c .before .before .reshared .ensures (c .before .before .before .before .before .before .before .before .frame .given .0 .0) (rw (c .before .before .before .before .is-shared .ensures) (w .word))))
-    (rw (c .before .before .before .is-shared2 .ensures) at (c .reshared2 .ensures (a .slot) (a .granule .0) (rw (c .before .before .before .before .is-shared .ensures) (w .owner))))
+    (rw (c .before .before .before .is-shared2 .ensures) at (c .before .before .reshared .ensures _ says))
+    (rw (c .before .before .before .is-shared2 .ensures) at (c .reshared2 .ensures _ _ owns))
 
 mul-frames-2 : tie.Need-mul-frames-2
 mul-frames-2 c = omega (arith, words (c .before .before .before .before .before) .inside)

@@ -2,13 +2,13 @@
 use mathlib.Core.Path.{_≡_}
 use mathlib.Core.List.{[], _∷_}
 use mathlib.Core.Logic.{⊎-elim}
-use Prim.Native.Nat.{ℕ, _+_, _-_, _≤_}
-use native.Mathlib.Nat.{add-zero}
+use Prim.Native.Nat.{ℕ, _-_, _≤_, min}
 use native.Mathlib.Omega.{arith}
 use denote.Enum.Declared.{tagOf}
 use types.Run.{OneOf}
 use Rattle.granules.specs.declared.step.Outcome.the-variants as outcome
 use Rattle.granules.specs.declared.step.Outcome.{Outcome}
+use Rattle.ranges.specs.Range.{rangeLimit}
 use Rattle.ranges.proofs.RangeLaws.{Going, begun, ran, more, refused-there}
 use borrow.Author.Needs.{needs}
 use Rattle.ranges.proofs.range.change_range.Statement.{statement}
@@ -29,9 +29,9 @@ abbrev μ-loop : tie.MeasureT-loop
 returns : tie.Need-returns Inv-loop μ-loop
 returns c =
     let a = c .before .before .before .before .before .args in
+    let most : c .before .before .least .result ≡ min rangeLimit (a .count) = c .before .before .least .ensures in
     let i : Going (a .operation) (a .slot) (a .row .now) (a .frames .now) (a .first .0) (c .before .before .least .result) (a .row .now) (a .frames .now) (a .first .0) = begun in
-    let none : a .first .0 - a .first .0 ≡ 0 = omega arith in
-    rw (c .stopped .ensures .0, c .stopped .ensures .1, ← c .before .before .least .ensures, add-zero) (rw none at (ran i (λ h. c .before .if1 .taken)))
+    rw (← most, c .stopped .ensures .1) (ran i (c .stopped .result .done) (omega (arith, c .stopped .ensures .0)) (λ h. c .before .if1 .taken))
 
 add-end : tie.Need-add-end Inv-loop μ-loop
 add-end c = omega (arith, c .least2 .ensures)
@@ -49,21 +49,18 @@ loop-again c =
 returns-2 : tie.Need-returns-2 Inv-loop μ-loop
 returns-2 c =
     let l = c .before .before .before .before .before .before .before .before .before in
-    let i = l .loop .inv .0 in
     let step = c .before .before .before .before .before .change-granule in
-    let start = l .before .before .before .before .before .before .args .first .0 in
-    let there : start + (l .loop .number - start) ≡ l .loop .number = omega (arith, i .upward) in
-    rw (there, ← l .before .before .before .least .ensures)
-    (refused-there i (omega (arith, l .before .least2 .ensures)) (step .result) (not-done (step .result) (c .match .keys2)) (step .ensures))
+    let most : l .before .before .before .least .result ≡ min rangeLimit (l .before .before .before .before .before .before .args .count) = l .before .before .before .least .ensures in
+    rw (← most)
+    (refused-there (l .loop .inv .0) (omega (arith, l .before .least2 .ensures)) _ (omega arith) (step .result) (not-done (step .result) (c .match .keys2)) (step .ensures))
 
 returns-3 : tie.Need-returns-3 Inv-loop μ-loop
 returns-3 c =
     let l = c .before .before in
     let i = l .loop .inv .0 in
-    let start = l .before .before .before .before .before .before .args .first .0 in
-    let there : start + (l .loop .number - start) ≡ l .loop .number = omega (arith, i .upward) in
-    rw (c .stopped2 .ensures .0, c .stopped2 .ensures .1, ← l .before .before .before .least .ensures, there)
-    (ran i (λ h. omega (arith, i .rows, l .before .least2 .ensures)))
+    let most : l .before .before .before .least .result ≡ min rangeLimit (l .before .before .before .before .before .before .args .count) = l .before .before .before .least .ensures in
+    rw (← most, c .stopped2 .ensures .1)
+    (ran i (c .stopped2 .result .done) (omega (arith, c .stopped2 .ensures .0)) (λ h. omega (arith, i .rows, l .before .least2 .ensures)))
 
 pub change-range-spec : {M : Type 1} → statement M
 change-range-spec =
