@@ -60,9 +60,9 @@ pub use Rattle.history.proofs.History.{calls-keep-sound, histories-are-sound, h
 
 -- A range call of slot v: R0 has the number of one of the four calls in its low half, and anything above.
 module _ (c : RangeCall) (r0 : ℕ) (number : r0 % 2 ^ 32 ≡ numberOf c) (v b r3 : ℕ) (s : State) where
-  -- Condition 3: "A range call cut into any list of pieces, carried on from where R1 says, ends as the granules taken one at a time: same
-  -- tables, records, count, refusal. One theorem over every list, from any tables, sound or damaged." The count is the number of map words
-  -- that differ from the start. (A piece of 0 sends no call, so it needs no exception.)
+  -- Condition 3: "Take every list of pieces .. that add up to n .. Every such list ends as the granules taken singly .., up to the first that is
+  -- refused .. Tables, records and granules done in all are equal, and so is the refusal with all its values, or neither has one. The granules
+  -- done in all are also the number of map words that differ from the start." (A piece of 0 sends no call, so it needs no exception.)
   pub pieces-are-single-steps : (ms : List ℕ)
       → (carriedOn r0 v r3 ms (at b s) ≡ singleSteps c v r3 (sum ms) (at b s)) × CountsChanges s (carriedOn r0 v r3 ms (at b s))
   pieces-are-single-steps ms =

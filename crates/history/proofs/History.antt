@@ -94,8 +94,8 @@ module _ (F W : ℕ) (frames-some : 1 ≤ F) (frames-few : F ≤ 16384) (width-s
   pub histories-are-sound : (cs : List Call) → Sound (stateAfter cs (freshState F W))
   histories-are-sound cs = words-sound (sound cs)
 
-  -- Condition 2: "After any calls from fresh tables, the host may access a frame exactly when it was never donated, or the last change to it
-  -- was a share by its owner or a confirmed clearing, read off the history of calls and answers, not off our tables."
+  -- Condition 2: "After any calls from fresh tables of fixed lengths within document 01's bounds, the host may access a frame exactly when it
+  -- was never donated, or when the last change to it was a share by its owner or a confirmed clearing."
   pub host-access-by-history : (cs : List Call) (f : ℕ) → f < F
       → numbersOf (step (Access f) (stateAfter cs (freshState F W)) .answer) ≡ verdictWith 0 (openAfter (lastChange (logOf cs (freshState F W)) f))
   host-access-by-history cs f h =

@@ -1,5 +1,5 @@
--- Condition 2, "read off the history of calls and answers, not off our tables": what a log says of one frame. Of our own words, tables and
--- records nothing occurs here; a frame that is a guest's is at the granule that its donation named.
+-- Condition 2, "an auditor reads the history and not our tables": what a log says of one frame. Of our own words, tables and records nothing
+-- occurs here; a frame that is a guest's is at the granule that its donation named.
 use mathlib.Core.Bool.{Bool, cond, _&&_}
 use mathlib.Core.List.{List, [], _∷_}
 use Prim.Native.Nat.{ℕ, _+_, _%_, _^_}
@@ -25,7 +25,7 @@ pub data FrameChange : Type 0 where
   ownerRemoved : FrameChange
   cleared : FrameChange
 
--- "exactly when it was never donated, or the last change to it was a share by its owner or a confirmed clearing"
+-- "exactly when it was never donated, or when the last change to it was a share by its owner or a confirmed clearing"
 abbrev pub openAfter : FrameChange → ℕ
 openAfter neverDonated = 1
 openAfter (donated v g) = 0
