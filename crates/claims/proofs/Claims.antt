@@ -44,7 +44,8 @@ use Rattle.claims.specs.R1.{TellsChanges}
 use Rattle.claims.specs.Footprint.{Within}
 use Rattle.claims.specs.HostCalls.{SevenExactly, RowOrEmpty, CountsFrames}
 use Rattle.claims.specs.Cases.{cases}
-use Rattle.claims.specs.HostCases.{hostCases}
+use Rattle.claims.specs.HostCases.{hostCases, hostLeft, rowsShown}
+use Rattle.claims.specs.GuestCases.{guestCases, guestLeft}
 use Rattle.claims.proofs.CallAgrees.{call-agrees}
 use Rattle.claims.proofs.Changes.{single-steps-count}
 use Rattle.claims.proofs.Addresses.{calls-fit}
@@ -112,7 +113,12 @@ pub case-table : AsExpected cases
 unfolding step donateOf hypercallOf abortOf actOf guestAccessOf functionOf callRowOf stepFrom changeOf granuleState pairAt frameState pairOf mapWordOf frameWordOf mapBits frameBits numbersOf guestOf withGuest framesHold mapHolds
 case-table = refl
 
--- and cases of the host's calls: each verdict that one can have, in sound and in damaged tables
-pub host-case-table : AsExpected hostCases
+-- and cases of the host's calls: each verdict that one can have, in sound and in damaged tables; what they leave; the rows that show hands back
+pub host-case-table : AsExpected hostCases × (AsExpected hostLeft × AsExpected rowsShown)
 unfolding step createOf freeFrom donateOf runOf removeOf clearedOf hostAccessOf showOf registerReadOf registerWriteOf registerNumbered rowVacant undamagedFrom framesFreed framesNamed boundsOf frameState pairOf granuleState pairAt mapWordOf frameWordOf mapBits frameBits numbersOf guestOf withGuest framesHold mapHolds
-host-case-table = refl
+host-case-table = (refl, (refl, refl))
+
+-- and of the guests' calls: every row of their table with each of its refusals, and every outcome of an abort; and what they leave
+pub guest-case-table : AsExpected guestCases × AsExpected guestLeft
+unfolding step donateOf runOf removeOf clearedOf hostAccessOf registerReadOf registerNumbered hypercallOf abortOf actOf guestAccessOf functionOf callRowOf stepFrom changeOf rowVacant undamagedFrom framesFreed framesNamed boundsOf granuleState pairAt frameState pairOf mapWordOf frameWordOf mapBits frameBits numbersOf guestOf withGuest framesHold mapHolds
+guest-case-table = (refl, refl)

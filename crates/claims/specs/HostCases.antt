@@ -1,5 +1,7 @@
--- Document 01, "Host calls" and "Verdicts": cases of every host call and every verdict that it can have, with all five numbers of each answer.
-use mathlib.Core.Bool.{true, false}
+-- Document 01, "Host calls" and "Verdicts": cases of every host call and every verdict that it can have, with all five numbers of each answer;
+-- what the calls that are done leave; and the rows that show hands back. For verdicts that follow each other in the order of a call there is a
+-- case in which both tests fail.
+use mathlib.Core.Bool.{Bool, true, false}
 use mathlib.Core.List.{List, [], _∷_, _++_}
 use Prim.Native.Nat.{ℕ, _-_, _^_}
 use lib.ListN.{replicate}
@@ -11,7 +13,8 @@ use Rattle.records.specs.declared.guest.Guest.{Guest}
 use Rattle.records.specs.declared.monitor.Monitor.{Monitor}
 use Rattle.answers.specs.declared.answer.Numbers.{Numbers}
 use Rattle.calls.specs.declared.call.Call.the-variants.{Create, Donate, Run, Remove, Cleared, Access, Show, RegisterRead, RegisterWrite}
-use Rattle.claims.specs.Case.{case}
+use Rattle.host_guests.specs.Calls.{showOf}
+use Rattle.claims.specs.Case.{case, leaves}
 
 -- a record that is not live and not zero
 abbrev pub deadNonZero : Guest
@@ -46,6 +49,24 @@ noFrames = state [] rows records
 abbrev pub shortMap : State
 shortMap = state frames (replicate 15 0) records
 
+-- a frame table of no words, and slot 2, dead, with a row that is not vacant
+abbrev pub damagedNoFrames : State
+damagedNoFrames = state [] (damaged .map) records
+
+-- slot 2 is dead, and its granule 1 names a frame that does not name it back
+abbrev pub secondDamaged : State
+secondDamaged = state frames (0x40000000 ∷ 0x80000001 ∷ 0xC0000000 ∷ 0 ∷ 0 ∷ 0x40000002 ∷ replicate 10 0) records
+
+-- live guests with bitmaps of their own, as they can be lent: slot 0 was run, slot 1 was not
+abbrev pub withOwnBitmaps : Bool → Guest
+withOwnBitmaps r = withFlags true r false (withBitmaps 5 6 7 zeroGuest)
+
+abbrev pub lentWith : Guest → Guest → State
+lentWith a b = state frames rows (record { guests = a ∷ b ∷ deadNonZero ∷ replicate 5 zeroGuest })
+
+abbrev pub lentBitmaps : State
+lentBitmaps = lentWith (withOwnBitmaps true) (withOwnBitmaps false)
+
 abbrev pub hostDoneWith : ℕ → Numbers
 hostDoneWith a = verdictWith 0 a
 
@@ -63,7 +84,10 @@ creations =
     -- the dead record's bitmap is not kept
     ∷ case sound (Create ∷ []) (RegisterRead 2 2) (hostDoneWith 1)
     ∷ case sound (Create ∷ []) Create (hostDoneWith 3)
+    -- the first word of the row, and the second, is not vacant
     ∷ case damaged [] Create (hostRefused 6)
+    ∷ case secondDamaged [] Create (hostRefused 6)
+    ∷ case damagedNoFrames [] Create (hostRefused 1)
     ∷ case (state frames rows allLive) [] Create (hostRefused 7)
     ∷ case (state [] rows allLive) [] Create (hostRefused 1)
     ∷ case noFrames [] Create (hostRefused 1)
@@ -72,7 +96,11 @@ creations =
     ∷ case shortMap [] (Donate 8 4 2) (hostRefused 1)
     ∷ case sound [] (Donate 8 4 2) (hostRefused 2)
     ∷ case sound [] (Donate 2 2 1) (hostRefused 2)
+    ∷ case sound [] (Donate 2 4 1) (hostRefused 2)
+    -- frame, granule not in range; and the granule, the frame damaged
     ∷ case sound [] (Donate 1 4 1) (hostRefused 4)
+    ∷ case sound [] (Donate 1 2 2) (hostRefused 4)
+    ∷ case damaged [] (Donate 0 4 0) (hostRefused 4)
     ∷ case damaged [] (Donate 0 0 2) (hostRefused 4)
     -- frame waiting; frame shared; granule guarded; granule private
     ∷ case sound [] (Donate 1 3 1) (hostRefused 5)
@@ -82,6 +110,9 @@ creations =
     -- granule damaged and frame waiting; frame damaged and granule not vacant
     ∷ case damaged [] (Donate 0 3 0) (hostRefused 6)
     ∷ case damaged [] (Donate 0 0 1) (hostRefused 6)
+    -- granule damaged alone; frame damaged alone
+    ∷ case damaged [] (Donate 0 2 0) (hostRefused 6)
+    ∷ case damaged [] (Donate 1 0 0) (hostRefused 6)
     ∷ []
 
 -- run, remove
@@ -90,6 +121,7 @@ runs =
     case sound [] (Run 1) (hostDoneWith 0)
     ∷ case sound [] (Run 0) (hostDoneWith 0)
     ∷ case sound [] (Run 2) (hostRefused 2)
+    ∷ case sound [] (Run 8) (hostRefused 2)
     ∷ case noFrames [] (Run 1) (hostDoneWith 0)
     -- two frames; a guarded granule is none
     ∷ case sound [] (Remove 0) (hostDoneWith 2)
@@ -99,7 +131,11 @@ runs =
     ∷ case sound (Remove 0 ∷ []) (Remove 0) (hostRefused 2)
     ∷ case damaged [] (Remove 0) (hostRefused 6)
     ∷ case damaged [] (Remove 2) (hostRefused 2)
+    ∷ case secondDamaged [] (Remove 2) (hostRefused 2)
+    ∷ case sound [] (Remove 8) (hostRefused 2)
     ∷ case shortMap [] (Remove 0) (hostRefused 1)
+    ∷ case shortMap [] (Remove 2) (hostRefused 1)
+    ∷ case damagedNoFrames [] (Remove 0) (hostRefused 1)
     ∷ []
 
 -- cleared, access, show
@@ -121,10 +157,15 @@ looks =
     ∷ case damaged [] (Access 2) (hostDoneWith 1)
     ∷ case sound [] (Access (2 ^ 64 - 1)) (hostRefused 4)
     ∷ case shortMap [] (Access 2) (hostRefused 1)
+    ∷ case shortMap [] (Access 4) (hostRefused 1)
+    -- a guest that was run, and one that was not
     ∷ case sound [] (Show 0) (hostDoneWith 0)
+    ∷ case sound [] (Show 1) (hostDoneWith 0)
     ∷ case damaged [] (Show 0) (hostDoneWith 0)
     ∷ case noFrames [] (Show 0) (hostDoneWith 0)
     ∷ case sound [] (Show 2) (hostRefused 2)
+    ∷ case sound [] (Show 8) (hostRefused 2)
+    ∷ case shortMap [] (Show 0) (hostRefused 1)
     ∷ case shortMap [] (Show 2) (hostRefused 1)
     ∷ []
 
@@ -136,16 +177,64 @@ registerCases =
     ∷ case sound [] (RegisterRead 1 3) (registerRefused 2)
     ∷ case sound [] (RegisterRead 1 (2 ^ 32)) (registerRefused 2)
     ∷ case sound [] (RegisterRead 2 3) (hostRefused 2)
+    ∷ case sound [] (RegisterRead 8 0) (hostRefused 2)
+    -- each of three; after run too
+    ∷ case lentBitmaps [] (RegisterRead 1 0) (hostDoneWith 5)
+    ∷ case lentBitmaps [] (RegisterRead 1 1) (hostDoneWith 6)
+    ∷ case lentBitmaps [] (RegisterRead 1 2) (hostDoneWith 7)
+    ∷ case lentBitmaps [] (RegisterRead 0 0) (hostDoneWith 5)
+    ∷ case lentBitmaps [] (RegisterRead 0 1) (hostDoneWith 6)
+    ∷ case lentBitmaps [] (RegisterRead 0 2) (hostDoneWith 7)
+    ∷ case lentBitmaps [] (RegisterWrite 1 0 0) (hostDoneWith 0)
+    ∷ case lentBitmaps [] (RegisterWrite 1 1 0) (hostDoneWith 0)
+    ∷ case lentBitmaps [] (RegisterWrite 1 2 1) (hostDoneWith 0)
     ∷ case sound [] (RegisterWrite 1 2 0) (hostDoneWith 0)
     ∷ case sound (RegisterWrite 1 2 0 ∷ []) (RegisterRead 1 2) (hostDoneWith 0)
     ∷ case sound [] (RegisterWrite 1 2 2) (registerRefused 22)
     ∷ case sound [] (RegisterWrite 1 0 1) (registerRefused 22)
+    ∷ case sound [] (RegisterWrite 1 1 1) (registerRefused 22)
+    ∷ case sound [] (RegisterWrite 1 2 (2 ^ 32)) (registerRefused 22)
+    ∷ case sound [] (RegisterWrite 1 3 9) (registerRefused 2)
     -- after run: another register, a bad value, the same value
     ∷ case sound [] (RegisterWrite 0 3 1) (registerRefused 2)
     ∷ case sound [] (RegisterWrite 0 1 1) (registerRefused 22)
     ∷ case sound [] (RegisterWrite 0 2 1) (registerRefused 16)
+    ∷ case sound [] (RegisterWrite 0 0 0) (registerRefused 16)
     ∷ case sound [] (RegisterWrite 2 3 1) (hostRefused 2)
+    ∷ case sound [] (RegisterWrite 8 0 0) (hostRefused 2)
     ∷ []
 
 abbrev pub hostCases : List (Case Numbers)
 hostCases = creations ++ (runs ++ (looks ++ registerCases))
+
+-- what calls leave: both tables and the records
+abbrev pub hostLeft : List (Case State)
+hostLeft =
+    leaves sound (Create ∷ []) (state frames rows (record { guests = markRun newGuest ∷ newGuest ∷ newGuest ∷ replicate 5 zeroGuest }))
+    ∷ leaves sound (Donate 1 2 1 ∷ [])
+    (state (0x01000000 ∷ 0x01010001 ∷ 0x02000001 ∷ 0xFF000000 ∷ []) (0x40000000 ∷ 0x80000001 ∷ 0xC0000000 ∷ 0x40000002 ∷ replicate 12 0) records)
+    ∷ leaves sound (Remove 0 ∷ [])
+    (state (0xFF000000 ∷ 0xFF000000 ∷ 0 ∷ 0xFF000000 ∷ []) (0 ∷ 0 ∷ 0xC0000000 ∷ replicate 13 0) (record { guests = zeroGuest ∷ newGuest ∷ deadNonZero ∷ replicate 5 zeroGuest }))
+    ∷ leaves sound (Cleared 3 ∷ []) (state (0x01000000 ∷ 0x01010001 ∷ 0 ∷ 0 ∷ []) rows records)
+    ∷ leaves sound (Access 0 ∷ Show 1 ∷ RegisterRead 1 2 ∷ []) sound
+    ∷ leaves lentBitmaps (Run 1 ∷ []) (lentWith (withOwnBitmaps true) (withOwnBitmaps true))
+    ∷ leaves lentBitmaps (Run 0 ∷ []) lentBitmaps
+    ∷ leaves lentBitmaps (RegisterWrite 1 0 0 ∷ []) (lentWith (withOwnBitmaps true) (withFlags true false false (withBitmaps 0 6 7 zeroGuest)))
+    ∷ leaves lentBitmaps (RegisterWrite 1 1 0 ∷ []) (lentWith (withOwnBitmaps true) (withFlags true false false (withBitmaps 5 0 7 zeroGuest)))
+    ∷ leaves lentBitmaps (RegisterWrite 1 2 1 ∷ []) (lentWith (withOwnBitmaps true) (withFlags true false false (withBitmaps 5 6 1 zeroGuest)))
+    ∷ []
+
+-- a slot, and the row that show hands back for it
+abbrev pub shown : State → ℕ → List ℕ → Case (List ℕ)
+shown s v row = record { found = showOf v (s .monitor) (s .map) .part; expected = row }
+
+-- two guests; none
+abbrev pub rowsShown : List (Case (List ℕ))
+rowsShown =
+    shown sound 0 (0x40000000 ∷ 0x80000001 ∷ [])
+    ∷ shown sound 1 (0xC0000000 ∷ 0 ∷ [])
+    ∷ shown damaged 0 (0x40000002 ∷ 0x80000001 ∷ [])
+    ∷ shown sound 2 []
+    ∷ shown sound 8 []
+    ∷ shown shortMap 0 []
+    ∷ []

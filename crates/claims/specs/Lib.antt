@@ -7,3 +7,4 @@ pub mod Case
 pub mod Cases
 pub mod HostCalls
 pub mod HostCases
+pub mod GuestCases
