@@ -7,7 +7,7 @@ use Prim.Native.Nat.{ℕ, _-_, _^_}
 use lib.ListN.{replicate}
 use Rattle.runs.specs.Worked.{Case}
 use Rattle.records.specs.Monitor.{withFlags, withBitmaps, zeroGuest, newGuest, markRun}
-use Rattle.answers.specs.Answer.{verdictWith}
+use Rattle.answers.specs.Answer.{verdictWith, numbersOf}
 use Rattle.commands.specs.State.{State, state}
 use Rattle.records.specs.declared.guest.Guest.{Guest}
 use Rattle.records.specs.declared.monitor.Monitor.{Monitor}
@@ -93,6 +93,7 @@ creations =
     ∷ case noFrames [] Create (hostRefused 1)
     ∷ case sound [] (Donate 1 2 1) (hostDoneWith 0)
     ∷ case sound (Donate 1 2 1 ∷ []) (Access 2) (hostDoneWith 0)
+    ∷ case noFrames [] (Donate 1 2 1) (hostRefused 1)
     ∷ case shortMap [] (Donate 8 4 2) (hostRefused 1)
     ∷ case sound [] (Donate 8 4 2) (hostRefused 2)
     ∷ case sound [] (Donate 2 2 1) (hostRefused 2)
@@ -224,17 +225,17 @@ hostLeft =
     ∷ leaves lentBitmaps (RegisterWrite 1 2 1 ∷ []) (lentWith (withOwnBitmaps true) (withFlags true false false (withBitmaps 5 6 1 zeroGuest)))
     ∷ []
 
--- a slot, and the row that show hands back for it
-abbrev pub shown : State → ℕ → List ℕ → Case (List ℕ)
-shown s v row = record { found = showOf v (s .monitor) (s .map) .part; expected = row }
+-- a slot, and what show answers and hands back for it
+abbrev pub shown : State → ℕ → Numbers → List ℕ → Case (Numbers × List ℕ)
+shown s v n row = let r = showOf v (s .monitor) (s .map) in record { found = (numbersOf (r .answer), r .part); expected = (n, row) }
 
--- two guests; none
-abbrev pub rowsShown : List (Case (List ℕ))
+-- two guests; a damaged row; no guest; no such slot; a bad length
+abbrev pub rowsShown : List (Case (Numbers × List ℕ))
 rowsShown =
-    shown sound 0 (0x40000000 ∷ 0x80000001 ∷ [])
-    ∷ shown sound 1 (0xC0000000 ∷ 0 ∷ [])
-    ∷ shown damaged 0 (0x40000002 ∷ 0x80000001 ∷ [])
-    ∷ shown sound 2 []
-    ∷ shown sound 8 []
-    ∷ shown shortMap 0 []
+    shown sound 0 (hostDoneWith 0) (0x40000000 ∷ 0x80000001 ∷ [])
+    ∷ shown sound 1 (hostDoneWith 0) (0xC0000000 ∷ 0 ∷ [])
+    ∷ shown damaged 0 (hostDoneWith 0) (0x40000002 ∷ 0x80000001 ∷ [])
+    ∷ shown sound 2 (hostRefused 2) []
+    ∷ shown sound 8 (hostRefused 2) []
+    ∷ shown shortMap 0 (hostRefused 1) []
     ∷ []
