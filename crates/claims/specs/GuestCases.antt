@@ -46,6 +46,10 @@ wide = state (0 ∷ []) (replicate 1024 0) (withGuest fresh 3 (callerWith true 0
 abbrev pub cut : State
 cut = state guestFrames (replicate 63 0) (withGuest fresh 3 (callerWith true 0))
 
+-- a frame table of no words
+abbrev pub noGuestFrames : State
+noGuestFrames = state [] (plain .map) (plain .monitor)
+
 -- a call of slot 3 with R0 to R3
 abbrev pub asks : ℕ → ℕ → ℕ → ℕ → Call
 asks a b c d = Hypercall 3 (registers a b c d)
@@ -143,6 +147,9 @@ guardCases =
     ∷ case enrolled [] (asks 0xC600000B 0x3000 1 9) (returnsDone 1)
     ∷ case enrolled [] (asks 0xC600000B 0x3000 3 9) (returnsDone 1)
     ∷ case enrolled (asks 0xC600000B 0x3000 1 0 ∷ []) (Abort 3 0x3000) (verdictWith 12 0)
+    -- one granule, and not the next
+    ∷ case wide (asks 0xC6000007 0 2 0 ∷ []) (Abort 3 0x1000) (verdictWith 12 0)
+    ∷ case wide (asks 0xC600000A 0 2 0 ∷ asks 0xC6000008 0 2 0 ∷ []) (Abort 3 0x1000) (verdictWith 11 0x1000)
     -- "a range guard call with count 0 answers NS"
     ∷ case enrolled [] (asks 0xC600000A 0x2000 0 0) (returnsError 1)
     ∷ case enrolled [] (asks 0xC600000B 0x3000 0 0) (returnsError 1)
@@ -173,6 +180,7 @@ relinquishCases =
     ∷ case plain (asks 0xC6000009 0 0 0 ∷ []) (Abort 3 0) (verdictWith 11 0)
     ∷ case plain (asks 0xC6000009 0 0 0 ∷ []) (Cleared 0) (verdictWith 0 0)
     ∷ case plain (asks 0xC6000009 0 0 0 ∷ Cleared 0 ∷ []) (Donate 3 0 0) (verdictWith 0 0)
+    ∷ case plain (asks 0xC6000009 0x4000 0 0 ∷ []) (Abort 3 0x5000) (verdictWith 13 0)
     ∷ case plain [] (asks 0xC6000009 0 1 0) (returnsError 3)
     ∷ case plain [] (asks 0xC6000009 0 (2 ^ 32) 0) (returnsError 3)
     ∷ case plain [] (asks 0xC6000009 0 0 1) (returnsError 3)
@@ -193,6 +201,8 @@ callerCases =
     case cut [] (Hypercall 2 (registers 0 0 0 0)) (verdictWith 1 0)
     ∷ case cut [] (asks 0xC6000003 1 0 0) (verdictWith 1 0)
     ∷ case cut [] (Abort 2 0) (verdictWith 1 0)
+    ∷ case noGuestFrames [] (asks 0xC6000002 0 0 0) (verdictWith 1 0)
+    ∷ case noGuestFrames [] (Abort 3 0x2000) (verdictWith 1 0)
     ∷ case plain [] (Hypercall 1 (registers 0xC6000003 1 0 0)) (verdictWith 2 0)
     ∷ case plain [] (Hypercall 8 (registers 0xC6000003 1 0 0)) (verdictWith 2 0)
     ∷ case plain (Remove 2 ∷ []) (Abort 2 0) (verdictWith 2 0)

@@ -6,7 +6,7 @@ use mathlib.Core.List.{List, [], _∷_, _++_}
 use Prim.Native.Nat.{ℕ, _-_, _^_}
 use lib.ListN.{replicate}
 use Rattle.runs.specs.Worked.{Case}
-use Rattle.records.specs.Monitor.{withFlags, withBitmaps, zeroGuest, newGuest, markRun}
+use Rattle.records.specs.Monitor.{withFlags, withBitmaps, zeroGuest, newGuest, markRun, withGuest}
 use Rattle.answers.specs.Answer.{verdictWith, numbersOf}
 use Rattle.commands.specs.State.{State, state}
 use Rattle.records.specs.declared.guest.Guest.{Guest}
@@ -88,6 +88,8 @@ creations =
     ∷ case damaged [] Create (hostRefused 6)
     ∷ case secondDamaged [] Create (hostRefused 6)
     ∷ case damagedNoFrames [] Create (hostRefused 1)
+    -- slot 7 alone is dead; none is
+    ∷ case (state frames rows (withGuest allLive 7 zeroGuest)) [] Create (hostDoneWith 7)
     ∷ case (state frames rows allLive) [] Create (hostRefused 7)
     ∷ case (state [] rows allLive) [] Create (hostRefused 1)
     ∷ case noFrames [] Create (hostRefused 1)
