@@ -1,6 +1,6 @@
 -- Which calls carrying on makes, each by the state that it is made in: the same recursion as `carryOn` and `pieces` in Run.
 use mathlib.Core.List.{List, [], _∷_, _++_}
-use Prim.Native.Nat.{ℕ, zero, suc, _-_}
+use Prim.Native.Nat.{ℕ, zero, suc, _-_, _<_}
 use Rattle.runs.specs.Run.{complete, refused, outOfFuel, End, ended, carryOn}
 
 module _ {S R : Type 0} where
@@ -31,3 +31,8 @@ module _ {S : Type 0} where
   abbrev pub Every : (S → Type 0) → List S → Type 0
   Every P [] = Unit {0}
   Every P (s ∷ ss) = P s × Every P ss
+
+  -- f is greater of each state of a list than of any before it
+  abbrev pub Rising : (S → ℕ) → List S → Type 0
+  Rising f [] = Unit {0}
+  Rising f (s ∷ ss) = Every (λ t. f s < f t) ss × Rising f ss
