@@ -1,25 +1,32 @@
--- A granule that is done is below W, at most 4,096, so the next address is at most 2^24.
-use mathlib.Core.Path.{_≡_, sym, _∙_}
-use mathlib.Core.Bool.{true, _&&_}
+-- A granule that is done is below W, at most 4,096, so the next address is at most 2^24. A call that does not refuse does a granule at least, so
+-- the next call is made at a greater address.
+use mathlib.Core.Path.{_≡_, refl, sym, _∙_}
+use mathlib.Core.Bool.{Bool, true, false, cond, _&&_}
 use mathlib.Core.List.{List}
-use Prim.Native.Nat.{ℕ, zero, suc, _%_, _≤_, _^_, min}
+use Prim.Native.Nat.{ℕ, zero, suc, _+_, _*_, _%_, _≤_, _<_, _^_, min}
 use native.Mathlib.Omega.{arith}
 use borrow.Author.Tests.{leb-true}
 use lib.Dec.{eqb, leb}
 use lib.ListN.{length}
-use Rattle.runs.specs.Run.{took, complete, End, ended, run}
-use Rattle.runs.specs.Made.{callsMade, Every}
+use Rattle.runs.specs.Run.{took, complete, refused, End, ended, run}
+use Rattle.runs.specs.Made.{callsMade, Every, Rising}
 use Rattle.runs.proofs.Kept.{Holds, kept}
-use Rattle.runs.proofs.MadeLaws.{made-every}
+use Rattle.runs.proofs.MadeLaws.{made-every, made-rising}
 use Rattle.runs.proofs.Pieces.{told}
+use Rattle.words.specs.Granule.{granuleSize}
 use Rattle.words.proofs.Booleans.{both-true}
 use Rattle.tables.specs.Length.{framesHold, widthOf, mapHolds, lengthsHold}
+use Rattle.answers.specs.Answer.{numbersOf}
+use Rattle.commands.specs.State.{State}
 use Rattle.ranges.specs.Range.{rangeLimit}
 use Rattle.answers.specs.declared.answer.Numbers.{Numbers}
 use Rattle.claims.specs.SingleSteps.{RangeCall, numberOf, At, at, singleStep}
-use Rattle.claims.specs.Pieces.{callAt, AddressFits}
+use Rattle.functions.specs.Rules.{registers}
+use Rattle.guest_hypercalls.specs.Calls.{hypercallOf}
+use Rattle.claims.specs.Pieces.{isRangeRefusal, callAt, addressIn, AddressFits}
 use Rattle.claims.proofs.CallAgrees.{call-agrees}
 use Rattle.claims.proofs.Changes.{single-took}
+use Rattle.claims.proofs.R1Laws.{tells-changes}
 
 width-bounded : (f n : ℕ) → lengthsHold f n ≡ true → widthOf n ≤ 4096
 unfolding mapHolds
@@ -43,7 +50,7 @@ module _ (c : RangeCall) (v r3 : ℕ) where
   told-fits (ended zero p r) k t h e = let same : p ≡ t = cc in rw same at h
   told-fits (ended (suc d) p r) k t h e = let same : p ≡ t = cc in rw same at h
 
-  module _ (r0 : ℕ) (number : r0 % 2 ^ 32 ≡ numberOf c) where
+  module _ (r0 : ℕ → ℕ) (number : (b : ℕ) → r0 b % 2 ^ 32 ≡ numberOf c) where
     keeps : (m : ℕ) (p : At) (k : ℕ) (q : At) → 1 ≤ m → AddressFits p → callAt r0 v r3 m p ≡ ended k q complete → AddressFits q
     unfolding Fits
     keeps m p k q h f e =
@@ -53,3 +60,18 @@ module _ (c : RangeCall) (v r3 : ℕ) where
     -- every call that carrying on makes has an R1 of 64 bits
     pub calls-fit : (ms : List ℕ) (p : At) → AddressFits p → Every AddressFits (callsMade (callAt r0 v r3) ms p)
     calls-fit ms p f = made-every AddressFits (callAt r0 v r3) keeps ms p f
+
+    rises : (m : ℕ) (p : At) (k : ℕ) (q : At) → 1 ≤ m → callAt r0 v r3 m p ≡ ended k q complete → addressIn p < addressIn q
+    rises m (at b s) k (at b′ t) h e =
+        let r = hypercallOf v (registers (r0 b) b m r3) s in
+        let a = numbersOf (r .answer) in
+        on (r .left) a (isRangeRefusal a) (λ z. tells-changes c (r0 b) (number b) v b r3 s m .done z .0) e
+      where
+        on : (u : State) (a : Numbers) (x : Bool) → (x ≡ false → 1 ≤ a .v1)
+            → cond x (ended 0 (at b u) (refused a)) (ended (a .v1) (at (b + granuleSize * a .v1) u) complete) ≡ ended k (at b′ t) complete → b < b′
+        on u a true some e = let z : _≡_ {A = ℕ} 0 1 = cc in absurd (omega arith)
+        on u a false some e = let there : b + granuleSize * a .v1 ≡ b′ = cc in omega (arith, some refl)
+
+    -- no two calls that carrying on makes are made at one address
+    pub calls-rise : (ms : List ℕ) (p : At) → Rising addressIn (callsMade (callAt r0 v r3) ms p)
+    calls-rise ms p = made-rising addressIn (callAt r0 v r3) rises ms p

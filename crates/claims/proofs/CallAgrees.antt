@@ -125,7 +125,7 @@ count-counts unshare m h = (rw (ne-eqb m 0 (omega arith)), refl)
 count-counts rangeGuardMap m h = (refl, refl)
 count-counts rangeGuardUnmap m h = (refl, refl)
 
-module _ (c : RangeCall) (r0 : ℕ) (number : r0 % 2 ^ 32 ≡ numberOf c) (v r3 : ℕ) where
+module _ (c : RangeCall) (r0 : ℕ → ℕ) (number : (b : ℕ) → r0 b % 2 ^ 32 ≡ numberOf c) (v r3 : ℕ) where
   -- the granules that a call works on
   abbrev worked : ℕ → At → End Place Refusal
   worked m (at b s) = run (tableStep (operationOf c) v) (min rangeLimit m) (place (s .map) (s .frames) (granuleOf b))
@@ -136,11 +136,11 @@ module _ (c : RangeCall) (r0 : ℕ) (number : r0 % 2 ^ 32 ≡ numberOf c) (v r3 
   call-reads m b s h =
       let guest = guestOf (s .monitor) v in
       let first = callerTests (s .frames) (s .map) v guest in
-      let r = registers r0 b m r3 in
-      let asks : askedBy r0 ≡ functionBy c = ap functionOf number ∙ number-asked c in
+      let r = registers (r0 b) b m r3 in
+      let asks : askedBy (r0 b) ≡ functionBy c = ap functionOf (number b) ∙ number-asked c in
       let done = finished (errorBy c) true (worked m (at b s)) in
       ap (λ (f : Function). readCall b (effected v s (unlessRefused (firstRefusal (first ++ rowTests (callRowOf f) r guest)) (actOf r (callRowOf f .error) (callRowOf f .action) (viewOf v s))))) asks
-      ∙ ap (λ (ts : Tests Answer). readCall b (effected v s (unlessRefused (firstRefusal (first ++ ts)) (actOf r (callRowOf (functionBy c) .error) (callRowOf (functionBy c) .action) (viewOf v s))))) (row-tests c r0 b m r3 guest h)
+      ∙ ap (λ (ts : Tests Answer). readCall b (effected v s (unlessRefused (firstRefusal (first ++ ts)) (actOf r (callRowOf (functionBy c) .error) (callRowOf (functionBy c) .action) (viewOf v s))))) (row-tests c (r0 b) b m r3 guest h)
       ∙ rw (row-error c, row-action c, count-counts c m h .0, count-counts c m h .1)
       (tests-read c (lengthsHold (length (s .frames)) (length (s .map))) (liveIn v guest) (guest .run) (registersRight c b r3) (enrolmentRight c guest) b v s done)
 

@@ -8,7 +8,7 @@ use mathlib.Core.List.{List}
 use Prim.Native.Nat.{ℕ, _%_, _<_, _^_}
 use native.Mathlib.Omega.{arith}
 use Rattle.runs.specs.Run.{outOfFuel, sum, stopOf}
-use Rattle.runs.specs.Made.{callsMade, Every}
+use Rattle.runs.specs.Made.{callsMade, Every, Rising}
 use Rattle.runs.specs.Worked.{AsExpected}
 use Rattle.runs.proofs.Pieces.{pieces-run, pieces-fuelled}
 use Rattle.words.specs.MapWord.{mapBits, mapWordOf}
@@ -39,16 +39,17 @@ use Rattle.calls.specs.Step.{step}
 use Rattle.calls.specs.declared.call.Call.{Call}
 use Rattle.claims.specs.SingleSteps.{RangeCall, numberOf, at, singleStep, singleSteps}
 use Rattle.claims.specs.Refusals.{isRefusal}
-use Rattle.claims.specs.Pieces.{callAt, carriedOn, CountsChanges, AddressFits}
+use Rattle.claims.specs.Pieces.{callAt, carriedOn, CountsChanges, addressIn, AddressFits}
 use Rattle.claims.specs.R1.{TellsChanges}
 use Rattle.claims.specs.Footprint.{Within}
 use Rattle.claims.specs.HostCalls.{SevenExactly, RowOrEmpty, CountsFrames}
 use Rattle.claims.specs.Cases.{cases}
 use Rattle.claims.specs.HostCases.{hostCases, hostLeft, rowsShown}
 use Rattle.claims.specs.GuestCases.{guestCases, guestLeft}
+use Rattle.claims.proofs.LowHalf.{low-half}
 use Rattle.claims.proofs.CallAgrees.{call-agrees}
 use Rattle.claims.proofs.Changes.{single-steps-count}
-use Rattle.claims.proofs.Addresses.{calls-fit}
+use Rattle.claims.proofs.Addresses.{calls-fit, calls-rise}
 use Rattle.claims.proofs.R1Laws.{tells-changes}
 use Rattle.claims.proofs.FootprintLaws.{hypercall-within}
 use Rattle.claims.proofs.RefusalLaws.{KeptRefused, step-kept}
@@ -59,8 +60,13 @@ use Rattle.claims.proofs.RemovalCounts.{removal-counts}
 -- Condition 2, the exact invariant, and what follows for every history.
 pub use Rattle.history.proofs.History.{calls-keep-sound, histories-are-sound, host-access-by-history, no-such-frame, no-damage-in-histories, private-or-waiting-closed, one-granule-per-frame, reachable-exactly, history-cases}
 
--- A range call of slot v: R0 has the number of one of the four calls in its low half, and anything above.
-module _ (c : RangeCall) (r0 : ℕ) (number : r0 % 2 ^ 32 ≡ numberOf c) (v b r3 : ℕ) (s : State) where
+-- "The function number is the low 32 bits of R0; the upper half isn't looked at": for every call and every number
+pub r0-by-its-low-half : (v : ℕ) (r : Registers) (s : State) → hypercallOf v r s ≡ hypercallOf v (registers (r .r0 % 2 ^ 32) (r .r1) (r .r2) (r .r3)) s
+r0-by-its-low-half v r s = low-half v r s
+
+-- Range calls of slot v. "Function number, slot and R3 stay the same": R0 has the number of one of the four calls in its low half; above it may
+-- have anything, in each call something else.
+module _ (c : RangeCall) (r0 : ℕ → ℕ) (number : (a : ℕ) → r0 a % 2 ^ 32 ≡ numberOf c) (v b r3 : ℕ) (s : State) where
   -- Condition 3: "Take every list of pieces .. that add up to n .. Every such list ends as the granules taken singly .., up to the first that is
   -- refused .. Tables, records and granules done in all are equal, and so is the refusal with all its values, or neither has one. The granules
   -- done in all are also the number of map words that differ from the start." (A piece of 0 sends no call, so it needs no exception.)
@@ -74,13 +80,18 @@ module _ (c : RangeCall) (r0 : ℕ) (number : r0 % 2 ^ 32 ≡ numberOf c) (v b r
   pub carrying-on-ends : (ms : List ℕ) → stopOf (carriedOn r0 v r3 ms (at b s)) ≢ outOfFuel
   carrying-on-ends ms = pieces-fuelled (singleStep c v r3) rangeLimit (omega arith) (callAt r0 v r3) (λ m p h. call-agrees c r0 number v r3 m p h) ms (at b s)
 
+  -- No two of its calls are made at one address, so that r0 gives each call any R0 with that number.
+  pub calls-at-rising-addresses : (ms : List ℕ) → Rising addressIn (callsMade (callAt r0 v r3) ms (at b s))
+  calls-at-rising-addresses ms = calls-rise c v r3 r0 number ms (at b s)
+
   -- and each address that is carried on fits a register
   pub carried-addresses-fit : (ms : List ℕ) → b < 2 ^ 64 → Every AddressFits (callsMade (callAt r0 v r3) ms (at b s))
   carried-addresses-fit ms h = calls-fit c v r3 r0 number ms (at b s) h
 
-  -- "R1 is the number of granules changed by this call": of one call with any count in R2
-  pub r1-is-what-changed : (n : ℕ) → TellsChanges s (hypercallOf v (registers r0 b n r3) s)
-  r1-is-what-changed n = tells-changes c r0 number v b r3 s n
+-- "R1 is the number of granules changed by this call": of one range call with any count in R2
+pub r1-is-what-changed : (c : RangeCall) (r0 : ℕ) → r0 % 2 ^ 32 ≡ numberOf c → (v b n r3 : ℕ) (s : State)
+    → TellsChanges s (hypercallOf v (registers r0 b n r3) s)
+r1-is-what-changed c r0 number v b n r3 s = tells-changes c r0 number v b r3 s n
 
 -- "A hypercall writes only the caller's row, .. the words of frames named in that row, and the caller's record."
 pub footprint : (v : ℕ) (r : Registers) (s : State) → Within v s (hypercallOf v r s .left)

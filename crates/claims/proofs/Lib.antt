@@ -1,4 +1,5 @@
 pub mod Claims
+pub mod LowHalf
 pub mod Took
 pub mod StepAgrees
 pub mod BeforeGranules

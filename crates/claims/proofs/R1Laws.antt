@@ -79,7 +79,7 @@ module _ (c : RangeCall) (r0 : ℕ) (number : r0 % 2 ^ 32 ≡ numberOf c) (v b r
       let steps : min rangeLimit m ≡ suc n = omega arith in
       let e = run (singleStep c v r3) (suc n) (at b s) in
       let few = run-at-most (singleStep c v r3) (suc n) (at b s) in
-      let reads : callAt r0 v r3 m (at b s) ≡ told e = rw steps at (call-agrees c r0 number v r3 m (at b s) h) in
+      let reads : callAt (λ a. r0) v r3 m (at b s) ≡ told e = rw steps at (call-agrees c (λ a. r0) (λ a. number) v r3 m (at b s) h) in
       let a = numbersOf (called m .answer) in
       let p = read-told s (called m .left) b a e (run-shape (singleStep c v r3) n (at b s)) (omega arith) (single-steps-count c v r3 s (suc n) b) (isRangeRefusal a) reads in
       record { done = p .0; none = p .1 }

@@ -25,12 +25,13 @@ readAnswer b s a = cond (isRangeRefusal a) (ended 0 (at b s) (refused a)) (ended
 abbrev pub readCall : ℕ → Answered → End At Numbers
 readCall b r = readAnswer b (r .left) (numbersOf (r .answer))
 
--- "make the call with R1 = b and R2 = m"; "Function number, slot and R3 stay the same."
-abbrev pub callAt : ℕ → ℕ → ℕ → ℕ → At → End At Numbers
-callAt r0 v r3 m (at b s) = readCall b (hypercallOf v (registers r0 b m r3) s)
+-- "make the call with R1 = b and R2 = m"; "Function number, slot and R3 stay the same." The function number is half of R0, so each call has an
+-- R0 of its own: r0 b is that of the call made at b.
+abbrev pub callAt : (ℕ → ℕ) → ℕ → ℕ → ℕ → At → End At Numbers
+callAt r0 v r3 m (at b s) = readCall b (hypercallOf v (registers (r0 b) b m r3) s)
 
 -- "carry on m − k at b + 4,096 × k. Stop when none is left or a call refuses. The next piece starts at the address where the last one ended."
-abbrev pub carriedOn : ℕ → ℕ → ℕ → List ℕ → At → End At Numbers
+abbrev pub carriedOn : (ℕ → ℕ) → ℕ → ℕ → List ℕ → At → End At Numbers
 carriedOn r0 v r3 ms p = pieces (callAt r0 v r3) ms p
 
 -- how many words differ
@@ -42,6 +43,10 @@ differing (x ∷ xs) (y ∷ ys) = cond (eqb x y) (differing xs ys) (suc (differi
 -- the granules done are the map words that differ from those of s
 abbrev pub CountsChanges : State → End At Numbers → Type 0
 CountsChanges s (ended k (at b t) r) = k ≡ differing (s .map) (t .map)
+
+-- where a call is made
+abbrev pub addressIn : At → ℕ
+addressIn (at b s) = b
 
 -- an address that a register holds
 abbrev pub AddressFits : At → Type 0
