@@ -54,7 +54,7 @@ use Rattle.claims.proofs.R1Laws.{tells-changes}
 use Rattle.claims.proofs.FootprintLaws.{hypercall-within}
 use Rattle.claims.proofs.RefusalLaws.{KeptRefused, step-kept}
 use Rattle.claims.proofs.CreateLaws.{seven-exactly}
-use Rattle.claims.proofs.RunLaws.{run-twice}
+use Rattle.claims.proofs.RunLaws.{run-again}
 use Rattle.claims.proofs.ShowLaws.{row-or-empty}
 use Rattle.claims.proofs.RemovalCounts.{removal-counts}
 -- Condition 2, the exact invariant, and what follows for every history.
@@ -107,9 +107,9 @@ refusals-change-nothing c s h = step-kept c s h
 pub create-refused-with-7 : (s : State) → SevenExactly s
 create-refused-with-7 s = seven-exactly s
 
--- of run: "again changes nothing"
-pub run-again-changes-nothing : (v : ℕ) (s : State) → runOf v (runOf v s .left) .left ≡ runOf v s .left
-run-again-changes-nothing v s = run-twice v s
+-- of run: "again changes nothing", where the guest is marked as run
+pub run-again-changes-nothing : (v : ℕ) (s : State) → guestOf (s .monitor) v .run ≡ true → runOf v s .left ≡ s
+run-again-changes-nothing v s h = run-again v s h
 
 -- of show: "the row is handed back ..; a refusal hands back an empty part", and no other answer does
 pub show-row-or-empty : (v : ℕ) (m : Monitor) (map : List ℕ) → RowOrEmpty v m map

@@ -1,32 +1,23 @@
--- A guest that was run is live and marked, and the mark set again is the same record.
-use mathlib.Core.Path.{_≡_, refl, ap, _∙_}
+-- The mark set on a record that has it is the same record, and a record put where it is changes nothing.
+use mathlib.Core.Path.{_≡_, refl, ap, sym, _∙_}
 use mathlib.Core.Bool.{Bool, true, false}
 use Prim.Native.Nat.{ℕ}
-use Rattle.records.specs.Monitor.{markRun, guestOf, withGuest}
+use Rattle.records.specs.Monitor.{withFlags, markRun, guestOf, withGuest}
 use Rattle.commands.specs.State.{State, state}
-use Rattle.records.proofs.MonitorLaws.{guest-put-live, put-again, lives}
+use Rattle.records.specs.declared.guest.Guest.{Guest}
+use Rattle.records.proofs.MonitorLaws.{put-own, lives}
 use Rattle.host_guests.specs.Calls.{runOf}
 
-module _ (v : ℕ) (s : State) where
-  dead-left : guestOf (s .monitor) v .live ≡ false → runOf v s .left ≡ s
-  unfolding runOf
-  dead-left e = rw (lives (s .monitor) v, e)
+marked : (g : Guest) → g .run ≡ true → markRun g ≡ g
+marked g e = ap (λ (x : Bool). withFlags (g .live) x (g .enrolled) g) (sym e)
 
-  live-left : guestOf (s .monitor) v .live ≡ true
-      → runOf v s .left ≡ state (s .frames) (s .map) (withGuest (s .monitor) v (markRun (guestOf (s .monitor) v)))
-  unfolding runOf
-  live-left e = rw (lives (s .monitor) v, e)
-
-pub run-twice : (v : ℕ) (s : State) → runOf v (runOf v s .left) .left ≡ runOf v s .left
-run-twice v s = on (guestOf (s .monitor) v .live) refl
+pub run-again : (v : ℕ) (s : State) → guestOf (s .monitor) v .run ≡ true → runOf v s .left ≡ s
+unfolding runOf
+run-again v s h = on (guestOf (s .monitor) v .live) refl
   where
-    on : (b : Bool) → guestOf (s .monitor) v .live ≡ b → runOf v (runOf v s .left) .left ≡ runOf v s .left
-    on false e = ap (λ (t : State). runOf v t .left) (dead-left v s e)
+    on : (x : Bool) → guestOf (s .monitor) v .live ≡ x → runOf v s .left ≡ s
+    on false e = rw (lives (s .monitor) v, e)
     on true e =
         let m = s .monitor in
-        let marked = markRun (guestOf m v) in
-        let t = state (s .frames) (s .map) (withGuest m v marked) in
-        let read : guestOf (withGuest m v marked) v ≡ marked = guest-put-live m v marked e in
-        let again : runOf v t .left ≡ state (s .frames) (s .map) (withGuest (withGuest m v marked) v (markRun (guestOf (withGuest m v marked) v))) =
-        live-left v t (rw read e) in
-        rw (live-left v s e) (again ∙ rw (read, put-again m v marked marked))
+        let left : runOf v s .left ≡ state (s .frames) (s .map) (withGuest m v (markRun (guestOf m v))) = rw (lives m v, e) in
+        left ∙ ap (state (s .frames) (s .map)) (ap (withGuest m v) (marked (guestOf m v) h) ∙ put-own m v)
