@@ -15,11 +15,11 @@ use Rattle.pairs.specs.declared.pairs.FrameState.the-variants as frame-s
 abbrev frames : List ℕ
 frames = 0x01000000 ∷ 0x02010001 ∷ 0 ∷ 0xFF000000 ∷ 0x01000002 ∷ 0x04000001 ∷ []
 
--- Eight rows of two granules.
+-- Eight rows of two granules. The word behind slot 0's row, the first of slot 1's, names the frame whose word names granule 2 of slot 0.
 abbrev rows : List ℕ
 rows =
     0x40000000 ∷ 0x40000000
-    ∷ 0x40000001 ∷ 0x80000001
+    ∷ 0x40000004 ∷ 0x80000001
     ∷ 0x40000002 ∷ 0x40000006
     ∷ 0xC0000000 ∷ 0
     ∷ 0x40010000 ∷ 0
