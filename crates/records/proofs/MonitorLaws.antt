@@ -6,7 +6,7 @@ use Prim.Native.Nat.{ℕ, _<_}
 use native.Mathlib.Decide.{decLt}
 use native.Mathlib.Omega.{arith}
 use borrow.Author.Tests.{lt-ltb, le-ltb, ltb-true}
-use lib.ListN.{length, length-set, getD-replicate, List·getD-eq-default}
+use lib.ListN.{length, length-set, getD-replicate}
 use lib.Seq.{getD-set-same, getD-set-other, set-getD, set-set}
 use lib.Dec.{ltb}
 use Rattle.words.proofs.Booleans.{and-false, both-true}
@@ -50,21 +50,6 @@ live-slot m v e = go (decLt v 8)
     go : Dec (v < 8) → v < 8
     go (yes h) = h
     go (no h) = let dead : guestOf m v .live ≡ false = rw (le-ltb v 8 (omega arith)) in let z : _≡_ {A = ℕ} 0 1 = cc in absurd (omega arith)
-
--- a record put in where a guest is live is read there, for any number of records
-pub guest-put-live : (m : Monitor) (v : ℕ) (g : Guest) → guestOf m v .live ≡ true → guestOf (withGuest m v g) v ≡ g
-unfolding guestOf
-guest-put-live m v g e = go (decLt v (length (m .guests)))
-  where
-    slot : v < 8
-    slot = live-slot m v e
-
-    go : Dec (v < length (m .guests)) → guestOf (withGuest m v g) v ≡ g
-    go (yes h) = guest-put m v g slot h
-    go (no h) =
-        let dead : guestOf m v .live ≡ false = rw (lt-ltb v 8 slot, List·getD-eq-default (m .guests) zeroGuest {n = v} (omega arith)) in
-        let z : _≡_ {A = ℕ} 0 1 = cc in
-        absurd (omega arith)
 
 -- a record put in where it is already
 pub put-own : (m : Monitor) (v : ℕ) → withGuest m v (guestOf m v) ≡ m
