@@ -18,7 +18,7 @@ use Rattle.tables.specs.Row.{boundsOf}
 use Rattle.pairs.specs.Pair.{granuleState, pairAt, frameState, pairOf}
 use Rattle.records.specs.Monitor.{guestOf, withGuest, freeFrom}
 use Rattle.answers.specs.Answer.{numbersOf}
-use Rattle.commands.specs.State.{State}
+use Rattle.commands.specs.State.{State, state}
 use Rattle.records.specs.declared.monitor.Monitor.{Monitor}
 use Rattle.granules.specs.Kind.{changeOf}
 use Rattle.granules.specs.Step.{stepFrom}
@@ -38,7 +38,10 @@ use Rattle.host_removal.specs.Calls.{removeOf}
 use Rattle.calls.specs.Step.{step}
 use Rattle.calls.specs.declared.call.Call.{Call}
 use Rattle.claims.specs.SingleSteps.{RangeCall, numberOf, at, singleStep, singleSteps}
+use Rattle.record_words.specs.Words.{monitorIn, answerWords}
+use Rattle.embed.specs.Lent.{lent, lentAfter}
 use Rattle.claims.specs.Refusals.{isRefusal}
+use Rattle.claims.specs.Exported.{exportedAs}
 use Rattle.claims.specs.Pieces.{callAt, carriedOn, CountsChanges, addressIn, AddressFits}
 use Rattle.claims.specs.R1.{TellsChanges}
 use Rattle.claims.specs.Footprint.{Within}
@@ -53,6 +56,7 @@ use Rattle.claims.proofs.Addresses.{calls-fit, calls-rise}
 use Rattle.claims.proofs.R1Laws.{tells-changes}
 use Rattle.claims.proofs.FootprintLaws.{hypercall-within}
 use Rattle.claims.proofs.RefusalLaws.{KeptRefused, step-kept}
+use Rattle.claims.proofs.ExportedLaws.{lent-same, lent-refused}
 use Rattle.claims.proofs.CreateLaws.{seven-exactly}
 use Rattle.claims.proofs.RunLaws.{run-again}
 use Rattle.claims.proofs.ShowLaws.{row-or-empty}
@@ -102,6 +106,16 @@ footprint v r s = hypercall-within v r s
 pub refusals-change-nothing : (c : Call) (s : State) → isRefusal (numbersOf (step c s .answer)) ≡ true → step c s .left ≡ s
 unfolding KeptRefused
 refusals-change-nothing c s h = step-kept c s h
+
+-- The same of what a program in C or Rust lends: a refusal leaves every word of the records and of both tables. A function of crates/embed
+-- leaves `lentAfter` of the definition of its call, which is `lentAfter` of its step.
+pub lent-refusals-change-nothing : (c : Call) (w f m : List ℕ)
+    → let a = numbersOf (step c (state f m (monitorIn w)) .answer) in
+    isRefusal a ≡ true → lentAfter (step c) w f m ≡ lent w f m (answerWords a)
+lent-refusals-change-nothing c w f m h = lent-refused c w f m h
+
+pub exported-calls-are-steps : (c : Call) → lentAfter (step c) ≡ lentAfter (exportedAs c)
+exported-calls-are-steps c = lent-same c
 
 -- of create: "Refused with 7 exactly when the lengths hold and all eight are live."
 pub create-refused-with-7 : (s : State) → SevenExactly s

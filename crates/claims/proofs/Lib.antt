@@ -10,6 +10,7 @@ pub mod Addresses
 pub mod R1Laws
 pub mod FootprintLaws
 pub mod RefusalLaws
+pub mod ExportedLaws
 pub mod CreateLaws
 pub mod ShowLaws
 pub mod RemovalCounts

@@ -1,4 +1,5 @@
 pub mod Refusals
+pub mod Exported
 pub mod SingleSteps
 pub mod Pieces
 pub mod R1

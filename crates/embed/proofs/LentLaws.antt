@@ -48,9 +48,3 @@ module _ (k : Command) (w f m : List ℕ) (v : ℕ) (n : v ≡ slotNumber (k .sl
     lent-kept keeps =
         let same : d .change ≡ Kept = ap (λ (r : Result). r .decision .change) h ∙ keeps-record k (view f m v g) keeps in
         lent-put w (rw same (sym (records-kept w)))
-
--- a call that leaves the state, as every refusal does, leaves every word
-pub lent-refused : (call : State → Answered) (w f m : List ℕ) → call (state f m (monitorIn w)) .left ≡ state f m (monitorIn w)
-    → lentAfter call w f m ≡ lent w f m (answerWords (numbersOf (call (state f m (monitorIn w)) .answer)))
-unfolding lentAfter
-lent-refused call w f m same = rw (same, records-kept w)
