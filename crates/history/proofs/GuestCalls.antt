@@ -38,7 +38,8 @@ use Rattle.history.specs.Log.{shared, unshared, relinquished}
 use Rattle.history.proofs.StateWords.{own, lengths-hold}
 use Rattle.history.proofs.WordsSound.{WordsSound}
 use Rattle.history.proofs.StillCalls.{still-kept, calm-kept}
-use Rattle.history.proofs.Preserved.{usual, Preserved, test, sure, refused-kept, call-kept, refusals-then, passes-both}
+use Rattle.history.specs.History.{isUsual}
+use Rattle.history.proofs.Preserved.{Preserved, test, sure, refused-kept, call-kept, refusals-then, passes-both}
 use Rattle.history.proofs.PassedTests.{granule-undamaged, below-width}
 use Rattle.history.proofs.LoggedFunctions.{after-asked}
 use Rattle.history.proofs.RangeCalls.{error-fine, change-kept, moved, unmoved}
@@ -94,15 +95,15 @@ module _ {F W : ℕ} {s : State} (i : WordsSound F W s) (v : ℕ) where
       let q = passes-both caller row p in
       function-kept i v r (lived v g (q .0 .1 .0) .1) (q .0 .1 .1 .0) asked refl (q .1 .1 .0))
 
-unbacked-usual : (a : ℕ) (g : Guest) → usual (numbersOf (unbacked a g)) ≡ true
+unbacked-usual : (a : ℕ) (g : Guest) → isUsual (numbersOf (unbacked a g)) ≡ true
 unfolding numbersOf
 unbacked-usual a g = on (g .enrolled)
   where
-    on : (b : Bool) → usual (numbersOf (cond b Exception (MmioExit a))) ≡ true
+    on : (b : Bool) → isUsual (numbersOf (cond b Exception (MmioExit a))) ≡ true
     on true = refl
     on false = refl
 
-found-usual : (a : ℕ) (g : Guest) (k : GranuleState) → granuleUndamaged k ≡ true → usual (numbersOf (accessAnswer a g k)) ≡ true
+found-usual : (a : ℕ) (g : Guest) (k : GranuleState) → granuleUndamaged k ≡ true → isUsual (numbersOf (accessAnswer a g k)) ≡ true
 unfolding numbersOf
 found-usual a g granule-state.Vacant h = unbacked-usual a g
 found-usual a g (granule-state.Frame b f) h = refl
@@ -110,12 +111,12 @@ found-usual a g granule-state.Guarded h = refl
 found-usual a g granule-state.Damaged h = never h
 
 module _ {F W : ℕ} {s : State} (i : WordsSound F W s) (v : ℕ) where
-  access-usual : (a : ℕ) → v < 8 → usual (numbersOf (guestAccessOf (s .frames) (s .map) v a (guestOf (s .monitor) v))) ≡ true
+  access-usual : (a : ℕ) → v < 8 → isUsual (numbersOf (guestAccessOf (s .frames) (s .map) v a (guestOf (s .monitor) v))) ≡ true
   unfolding guestAccessOf
   access-usual a slot = on (ltb (granuleOf a) (widthOf (length (s .map)))) refl
     where
       on : (b : Bool) → ltb (granuleOf a) (widthOf (length (s .map))) ≡ b
-          → usual (numbersOf (cond b (accessAnswer a (guestOf (s .monitor) v) (pairAt (s .frames) (s .map) v (granuleOf a))) (unbacked a (guestOf (s .monitor) v)))) ≡ true
+          → isUsual (numbersOf (cond b (accessAnswer a (guestOf (s .monitor) v) (pairAt (s .frames) (s .map) v (granuleOf a))) (unbacked a (guestOf (s .monitor) v)))) ≡ true
       on true e =
           found-usual a (guestOf (s .monitor) v) (pairAt (s .frames) (s .map) v (granuleOf a))
           (granule-undamaged i v (granuleOf a) slot (below-width i (granuleOf a) e))

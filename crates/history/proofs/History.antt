@@ -1,21 +1,19 @@
 -- What holds of every history: any calls, with any arguments, refused ones too, from fresh tables of any lengths that document 01 allows.
 use mathlib.Core.Path.{_≡_, refl, ap, subst, _∙_}
-use mathlib.Core.Logic.{_≢_}
-use mathlib.Core.Bool.{Bool, true, false, not}
+use mathlib.Core.Bool.{true, false}
 use mathlib.Core.List.{List}
 use Prim.Native.Nat.{ℕ, _*_, _/_, _%_, _<_, _≤_}
 use native.Mathlib.Omega.{arith}
-use borrow.Author.Tests.{lt-ltb, le-ltb, le-leb, eq-eqb}
-use lib.Dec.{eqb}
+use borrow.Author.Tests.{lt-ltb, le-ltb, le-leb}
 use lib.ListN.{length}
 use Rattle.runs.specs.Worked.{AsExpected}
 use Rattle.words.specs.MapWord.{mapWordOf, mapBits}
 use Rattle.words.specs.FrameWord.{frameBits, frameWordOf}
 use Rattle.words.specs.declared.map_word.MapWord.the-variants as map-word
 use Rattle.words.specs.declared.frame_word.FrameWord.{FrameWord}
-use Rattle.words.proofs.Booleans.{both-true}
+use Rattle.words.specs.declared.frame_word.FrameWord.the-variants as frame-word
 use Rattle.tables.specs.Length.{widthOf, framesHold, mapHolds, lengthsHold}
-use Rattle.tables.specs.Row.{wordAt, boundsOf}
+use Rattle.tables.specs.Row.{boundsOf}
 use Rattle.pairs.specs.Pair.{pairOf, granuleState, pairAt, frameState}
 use Rattle.pairs.specs.declared.pairs.FrameState.{FrameState}
 use Rattle.pairs.specs.declared.pairs.FrameState.the-variants as frame-state
@@ -36,7 +34,7 @@ use Rattle.calls.specs.Step.{step, stateAfter, freshState}
 use Rattle.calls.specs.declared.call.Call.{Call}
 use Rattle.calls.specs.declared.call.Call.the-variants.{Access}
 use Rattle.history.specs.Log.{FrameChange, neverDonated, donated, shared, unshared, relinquished, ownerRemoved, cleared, openAfter, lastChange, afterHypercall}
-use Rattle.history.specs.History.{logOf, privateOrWaiting}
+use Rattle.history.specs.History.{logOf, privateOrWaiting, noFrameTold, isUsual, NamesFrame}
 use Rattle.history.specs.Reachable.{Reachable}
 use Rattle.history.specs.Sound.{Sound}
 use Rattle.history.specs.Cases.{logs}
@@ -60,12 +58,6 @@ open-after (unshared v g) = refl
 open-after relinquished = refl
 open-after ownerRemoved = refl
 open-after cleared = refl
-
-other-than : (q n : ℕ) → not (eqb q n) ≡ true → q ≢ n
-other-than q n h e =
-    let t : not (eqb q n) ≡ false = rw (eq-eqb q n e) in
-    let z : _≡_ {A = ℕ} 0 1 = cc in
-    omega arith
 
 closed : (k : FrameState) → privateOrWaiting k ≡ true → openTo k ≡ 0
 closed frame-state.Host h = cc
@@ -104,17 +96,13 @@ module _ (F W : ℕ) (frames-some : 1 ≤ F) (frames-few : F ≤ 16384) (width-s
       ∙ ap (verdictWith 0) (open-after (lastChange (logOf cs (freshState F W)) f))
 
   -- and a number of no frame is refused
-  pub no-such-frame : (cs : List Call) (f : ℕ) → F ≤ f → numbersOf (step (Access f) (stateAfter cs (freshState F W)) .answer) ≡ verdictWith 4 0
+  pub no-such-frame : (cs : List Call) (f : ℕ) → F ≤ f → numbersOf (step (Access f) (stateAfter cs (freshState F W)) .answer) ≡ noFrameTold
   unfolding step hostAccessOf numbersOf
   no-such-frame cs f h = rw (lengths-hold (sound cs .sized), sound cs .sized .frame-words, le-ltb f F h)
 
   -- In any history no call answers verdict 1 or 6.
-  pub no-damage-in-histories : (cs : List Call) (c : Call)
-      → (numbersOf (step c (stateAfter cs (freshState F W)) .answer) .verdict ≢ 1) × (numbersOf (step c (stateAfter cs (freshState F W)) .answer) .verdict ≢ 6)
-  no-damage-in-histories cs c =
-      let q = numbersOf (step c (stateAfter cs (freshState F W)) .answer) .verdict in
-      let p = both-true (not (eqb q 1)) (not (eqb q 6)) (keep (sound cs) c .usual-verdict) in
-      (other-than q 1 (p .0), other-than q 6 (p .1))
+  pub no-damage-in-histories : (cs : List Call) (c : Call) → isUsual (numbersOf (step c (stateAfter cs (freshState F W)) .answer)) ≡ true
+  no-damage-in-histories cs c = keep (sound cs) c .usual-verdict
 
   -- A frame that is private or waiting is never accessible.
   pub private-or-waiting-closed : (cs : List Call) (f : ℕ) → f < F
@@ -124,16 +112,20 @@ module _ (F W : ℕ) (frames-some : 1 ≤ F) (frames-few : F ≤ 16384) (width-s
       let s = stateAfter cs (freshState F W) in
       access-seen (sound cs) f h ∙ ap (verdictWith 0) (closed (frameBy (own s f)) (rw (frame-found (sound cs) f h) at e))
 
-  -- Two granules never name one frame.
-  pub one-granule-per-frame : (cs : List Call) (v g u h f : ℕ) (b c : Bool) → v < 8 → g < W → u < 8 → h < W
-      → mapWordOf (wordAt (stateAfter cs (freshState F W) .map) v g) ≡ map-word.Frame b f
-      → mapWordOf (wordAt (stateAfter cs (freshState F W) .map) u h) ≡ map-word.Frame c f
-      → (v ≡ u) × (g ≡ h)
+  named-back : (cs : List Call) (v g f : ℕ) (p : NamesFrame (stateAfter cs (freshState F W)) v g f)
+      → own (stateAfter cs (freshState F W)) f ≡ frame-word.Owned v (p .sharing) g
   unfolding look
-  one-granule-per-frame cs v g u h f b c hv hg hu hh p q =
+  named-back cs v g f p =
       let i = sound cs in
-      let first = i .says-back v b g f hv hg (rw (width-is (i .sized)) at p) .1 in
-      let second = i .says-back u c h f hu hh (rw (width-is (i .sized)) at q) .1 in
+      let word : look W (stateAfter cs (freshState F W)) v g ≡ map-word.Frame (p .sharing) f = rw (width-is (i .sized)) at (p .word) in
+      i .says-back v (p .sharing) g f (p .slot) (omega (arith, width-is (i .sized), p .below)) word .1
+
+  -- Two granules never name one frame.
+  pub one-granule-per-frame : (cs : List Call) (v g u h f : ℕ)
+      → NamesFrame (stateAfter cs (freshState F W)) v g f → NamesFrame (stateAfter cs (freshState F W)) u h f → (v ≡ u) × (g ≡ h)
+  one-granule-per-frame cs v g u h f p q =
+      let first = named-back cs v g f p in
+      let second = named-back cs u h f q in
       (cc, cc)
 
 reachable-sound : (s : State) → Reachable s → Sound s

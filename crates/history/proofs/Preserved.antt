@@ -16,13 +16,10 @@ use Rattle.commands.proofs.TestLaws.{Passes}
 use Rattle.calls.specs.Step.{commandOf, FrameEvent, donation, removal, clearing, guestCall, otherEvent, frameEvent, step}
 use Rattle.calls.specs.declared.call.Call.{Call}
 use Rattle.history.specs.Log.{FrameChange, hostDone, guestDone, afterEvent, afterCall}
+use Rattle.history.specs.History.{isUsual}
 use Rattle.history.proofs.StateWords.{own}
 use Rattle.history.proofs.WordsSound.{WordsSound}
 use Rattle.history.proofs.FramesAtGranules.{ownerAfter}
-
--- neither of the verdicts 1 and 6
-abbrev pub usual : Numbers → Bool
-usual n = not (eqb (n .verdict) 1) && not (eqb (n .verdict) 6)
 
 -- an answer of a call that is not done
 abbrev pub undone : Numbers → Bool
@@ -31,7 +28,7 @@ undone n = not (hostDone n) && not (guestDone n)
 pub record Preserved (F W : ℕ) (s : State) (c : Call) (r : Answered) : Type 0 where
   pub sound : WordsSound F W (r .left)
   pub logged : (f : ℕ) → f < F → (x : FrameChange) → own s f ≡ ownerAfter x → own (r .left) f ≡ ownerAfter (afterCall f c (numbersOf (r .answer)) x)
-  pub usual-verdict : usual (numbersOf (r .answer)) ≡ true
+  pub usual-verdict : isUsual (numbersOf (r .answer)) ≡ true
 
 not-true : (b : Bool) → not b ≡ true → b ≡ false
 not-true true e = sym e
@@ -60,7 +57,7 @@ undone-log f c n x e = on (frameEvent c)
 
 -- what a refusal has to be
 abbrev pub Fine : Answer → Type 0
-Fine a = (undone (numbersOf a) ≡ true) × (usual (numbersOf a) ≡ true)
+Fine a = (undone (numbersOf a) ≡ true) × (isUsual (numbersOf a) ≡ true)
 
 -- each test that fails gives such a refusal, where those before it passed
 abbrev pub Refusals : Tests Answer → Type 0

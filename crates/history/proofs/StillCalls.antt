@@ -23,7 +23,8 @@ use Rattle.history.proofs.StateWords.{own, look}
 use Rattle.history.proofs.WordsSound.{stateBy, WordsSound}
 use Rattle.history.proofs.RecordMoves.{recorded-sound}
 use Rattle.history.proofs.RecordLaws.{new-sound, run-sound, run-holds, enroll-sound, enroll-holds, bitmap-flags, flags-hold, bitmap-sound}
-use Rattle.history.proofs.Preserved.{usual, Preserved, Refusals, slotIn, seenIn, call-kept}
+use Rattle.history.specs.History.{isUsual}
+use Rattle.history.proofs.Preserved.{Preserved, Refusals, slotIn, seenIn, call-kept}
 
 -- a record that is not a guest's lets a granule hold nothing
 dead-vacant : (d : MapWord) → mayHold zeroGuest (stateBy d) ≡ true → d ≡ map-word.Vacant
@@ -43,11 +44,11 @@ Allows s v change.Enrolled = (guestOf (s .monitor) v .live ≡ true) × (guestOf
 Allows s v (change.Written r y) = (guestOf (s .monitor) v .live ≡ true) × (withinLimit r y ≡ true)
 
 abbrev pub Mild : State → ℕ → Effect → Type 0
-Mild s v (answerOnly a) = usual (numbersOf a) ≡ true
+Mild s v (answerOnly a) = isUsual (numbersOf a) ≡ true
 Mild s v (changeRecord d y) = Allows s v d
 Mild s v (writeTables f m d y) = ⊥
 
-success-usual : (y : Success) → usual (numbersOf (successAnswer y)) ≡ true
+success-usual : (y : Success) → isUsual (numbersOf (successAnswer y)) ≡ true
 unfolding numbersOf
 success-usual (hostSuccess n) = refl
 success-usual (guestSuccess n) = refl
