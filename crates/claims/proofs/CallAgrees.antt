@@ -7,7 +7,7 @@ use Prim.Native.Nat.{ℕ, suc, _+_, _*_, _-_, _%_, _≤_, _^_, min}
 use native.Mathlib.Omega.{arith}
 use borrow.Author.Tests.{lt-ltb, ne-eqb}
 use lib.ListN.{length}
-use Rattle.runs.specs.Run.{Step, took, refuses, refused, End, ended, oneMore, onward, run}
+use Rattle.runs.specs.Run.{Step, took, refuses, complete, refused, End, ended, oneMore, onward, run}
 use Rattle.runs.proofs.Gate.{passed}
 use Rattle.runs.proofs.Kept.{Holds, kept}
 use Rattle.runs.proofs.Alike.{mapEnd}
@@ -168,7 +168,7 @@ module _ (c : RangeCall) (r0 : ℕ → ℕ) (number : (b : ℕ) → r0 b % 2 ^ 3
     unfolding Upward numbersOf
     done-read (ended k (place map′ frames′ g′) r) i =
         let there : b + granuleSize * suc k ≡ addressOf g′ = omega arith in
-        rw there
+        ap (λ (a : ℕ). ended (suc k) (at a (state frames′ map′ m)) complete) there
 
     none-read : (r : Refusal) → answers (ended 0 (place map frames g) (refused r)) ≡ tells (ended 0 (place map frames g) (refused r))
     unfolding numbersOf

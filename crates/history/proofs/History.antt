@@ -98,7 +98,9 @@ module _ (F W : ℕ) (frames-some : 1 ≤ F) (frames-few : F ≤ 16384) (width-s
   -- and a number of no frame is refused
   pub no-such-frame : (cs : List Call) (f : ℕ) → F ≤ f → numbersOf (step (Access f) (stateAfter cs (freshState F W)) .answer) ≡ noFrameTold
   unfolding step hostAccessOf numbersOf
-  no-such-frame cs f h = rw (lengths-hold (sound cs .sized), sound cs .sized .frame-words, le-ltb f F h)
+  no-such-frame cs f h =
+      let told : verdictWith 4 0 ≡ noFrameTold = refl in
+      rw (lengths-hold (sound cs .sized), sound cs .sized .frame-words, le-ltb f F h) told
 
   -- In any history no call answers verdict 1 or 6.
   pub no-damage-in-histories : (cs : List Call) (c : Call) → isUsual (numbersOf (step c (stateAfter cs (freshState F W)) .answer)) ≡ true

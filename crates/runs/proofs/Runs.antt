@@ -32,7 +32,7 @@ module _ {S R : Type 0} (step : S → Step S R) where
       on : ((t : S) → resume m (run step n t) ≡ run step m t) → (o : Step S R) → step s ≡ o
           → resume (suc m) (onward (λ t. run step n t) s o) ≡ onward (λ t. run step m t) s o
       on ih (took t) e = resume-one m (run step n t) ∙ ap oneMore (ih t)
-      on ih (refuses r) e = rw (sub-zero, after-zero, e)
+      on ih (refuses r) e = let again : run step (suc m) s ≡ ended 0 s (refused r) = rw e in rw (sub-zero, after-zero) again
 
   -- a steps and then b are a + b
   pub joins : (a b : ℕ) (s : S) → andThen (run step a s) (run step b) ≡ run step (a + b) s
