@@ -1,6 +1,7 @@
 -- What the customer asks for, each with the words that ask for it. The definitions are in specs/; all else in proofs/ only helps to prove these.
--- No theorem here assumes anything of the state: lengths, tables and records may be sound or damaged. Those of histories, which begin with
--- fresh tables, are stated and proved in the crate history, proofs/History.antt, and passed on from there.
+-- No theorem here assumes anything of the state, but that of a second run, that the guest was run: lengths, tables and records may be sound or
+-- damaged. Those of histories, which begin with fresh tables, are stated and proved in the crate history, proofs/History.antt, and passed on
+-- from there.
 use mathlib.Core.Path.{_≡_, refl}
 use mathlib.Core.Logic.{_≢_}
 use mathlib.Core.Bool.{true}

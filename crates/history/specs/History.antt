@@ -30,7 +30,7 @@ privateOrWaiting frame-state.Waiting = true
 privateOrWaiting (frame-state.Owned v shared g) = not shared
 privateOrWaiting frame-state.Damaged = false
 
--- verdict 4, where the "queried frame" is "not below F"
+-- verdict 4: "queried frame not below F"
 abbrev pub noFrameTold : Numbers
 noFrameTold = verdictWith 4 0
 
