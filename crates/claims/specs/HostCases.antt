@@ -6,12 +6,13 @@ use mathlib.Core.List.{List, [], _∷_, _++_}
 use Prim.Native.Nat.{ℕ, _-_, _^_}
 use lib.ListN.{replicate}
 use Rattle.runs.specs.Worked.{Case}
-use Rattle.records.specs.Monitor.{withFlags, withBitmaps, zeroGuest, newGuest, markRun, withGuest}
+use Rattle.records.specs.Monitor.{withFlags, withBitmaps, zeroGuest, newGuest, markRun, enroll, withGuest}
 use Rattle.answers.specs.Answer.{verdictWith, numbersOf}
 use Rattle.commands.specs.State.{State, state}
 use Rattle.records.specs.declared.guest.Guest.{Guest}
 use Rattle.records.specs.declared.monitor.Monitor.{Monitor}
 use Rattle.answers.specs.declared.answer.Numbers.{Numbers}
+use Rattle.calls.specs.Step.{freshState}
 use Rattle.calls.specs.declared.call.Call.the-variants.{Create, Donate, Run, Remove, Cleared, Access, Show, RegisterRead, RegisterWrite}
 use Rattle.host_guests.specs.Calls.{showOf}
 use Rattle.claims.specs.Case.{case, leaves}
@@ -88,7 +89,9 @@ creations =
     ∷ case damaged [] Create (hostRefused 6)
     ∷ case secondDamaged [] Create (hostRefused 6)
     ∷ case damagedNoFrames [] Create (hostRefused 1)
-    -- slot 7 alone is dead; none is
+    -- eight from fresh tables; slot 7 alone is dead; none is
+    ∷ case (freshState 1 1) (replicate 7 Create) Create (hostDoneWith 7)
+    ∷ case (freshState 1 1) (replicate 8 Create) Create (hostRefused 7)
     ∷ case (state frames rows (withGuest allLive 7 zeroGuest)) [] Create (hostDoneWith 7)
     ∷ case (state frames rows allLive) [] Create (hostRefused 7)
     ∷ case (state [] rows allLive) [] Create (hostRefused 1)
@@ -132,7 +135,9 @@ runs =
     ∷ case sound (Remove 0 ∷ []) (Access 1) (hostDoneWith 0)
     ∷ case sound (Remove 0 ∷ []) Create (hostDoneWith 0)
     ∷ case sound (Remove 0 ∷ []) (Remove 0) (hostRefused 2)
+    -- the first granule of the row is damaged, the second
     ∷ case damaged [] (Remove 0) (hostRefused 6)
+    ∷ case (state frames (0x40000000 ∷ 0x40000002 ∷ replicate 14 0) records) [] (Remove 0) (hostRefused 6)
     ∷ case damaged [] (Remove 2) (hostRefused 2)
     ∷ case secondDamaged [] (Remove 2) (hostRefused 2)
     ∷ case sound [] (Remove 8) (hostRefused 2)
@@ -218,10 +223,13 @@ hostLeft =
     (state (0x01000000 ∷ 0x01010001 ∷ 0x02000001 ∷ 0xFF000000 ∷ []) (0x40000000 ∷ 0x80000001 ∷ 0xC0000000 ∷ 0x40000002 ∷ replicate 12 0) records)
     ∷ leaves sound (Remove 0 ∷ [])
     (state (0xFF000000 ∷ 0xFF000000 ∷ 0 ∷ 0xFF000000 ∷ []) (0 ∷ 0 ∷ 0xC0000000 ∷ replicate 13 0) (record { guests = zeroGuest ∷ newGuest ∷ deadNonZero ∷ replicate 5 zeroGuest }))
+    ∷ leaves sound (Remove 1 ∷ [])
+    (state frames (0x40000000 ∷ 0x80000001 ∷ replicate 14 0) (record { guests = markRun newGuest ∷ zeroGuest ∷ deadNonZero ∷ replicate 5 zeroGuest }))
     ∷ leaves sound (Cleared 3 ∷ []) (state (0x01000000 ∷ 0x01010001 ∷ 0 ∷ 0 ∷ []) rows records)
     ∷ leaves sound (Access 0 ∷ Show 1 ∷ RegisterRead 1 2 ∷ []) sound
     ∷ leaves lentBitmaps (Run 1 ∷ []) (lentWith (withOwnBitmaps true) (withOwnBitmaps true))
     ∷ leaves lentBitmaps (Run 0 ∷ []) lentBitmaps
+    ∷ leaves (lentWith newGuest (enroll newGuest)) (Run 1 ∷ []) (lentWith newGuest (withFlags true true true newGuest))
     ∷ leaves lentBitmaps (RegisterWrite 1 0 0 ∷ []) (lentWith (withOwnBitmaps true) (withFlags true false false (withBitmaps 0 6 7 zeroGuest)))
     ∷ leaves lentBitmaps (RegisterWrite 1 1 0 ∷ []) (lentWith (withOwnBitmaps true) (withFlags true false false (withBitmaps 5 0 7 zeroGuest)))
     ∷ leaves lentBitmaps (RegisterWrite 1 2 1 ∷ []) (lentWith (withOwnBitmaps true) (withFlags true false false (withBitmaps 5 6 1 zeroGuest)))

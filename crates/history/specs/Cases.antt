@@ -38,6 +38,8 @@ logs =
     ∷ case (began ++ (asks 0 0x1C6000003 5 1 ∷ [])) 3 (shared 0 5) 1
     -- three granules asked for, of which the second has no frame: R1 is 1
     ∷ case (began ++ (asks 0 0xC6000003 5 3 ∷ [])) 4 (donated 0 7) 0
+    -- two that were shared, of which this is the second
+    ∷ case (began ++ (Donate 0 8 6 ∷ asks 0 0xC6000003 5 2 ∷ [])) 8 (shared 0 6) 1
     -- the granule after the one that was shared
     ∷ case (began ++ (Donate 0 8 6 ∷ asks 0 0xC6000003 5 1 ∷ [])) 8 (donated 0 6) 0
     -- the same granule of another guest
