@@ -45,6 +45,10 @@ nothing-by (suc k) r false e = rw e
 nothing : (k : ℕ) (r : Replay) → recordByRecord k r [] ≡ outcome [] r []
 nothing k r = nothing-by k r (r .stopped) refl
 
+pub no-bytes : (r : Replay) → outcomeOf r [] ≡ outcome [] r []
+unfolding outcomeOf
+no-bytes r = refl
+
 goes-same : (b : Bool) (f g : Replay → List ℕ → ReplayOutcome) (a : Advance) (s : List ℕ)
     → (b ≡ true → f (a .left) (drop (a .taken) s) ≡ g (a .left) (drop (a .taken) s))
     → readOn b f a s ≡ readOn b g a s

@@ -1,11 +1,10 @@
--- Whole logs: how pieces join, what the text of a whole log is, and document 01's cases.
-use mathlib.Core.Path.{_≡_, refl, _∙_, sym, ap}
+-- Whole logs: the text of one that comes in pieces, how much of it is held between them, and document 01's cases.
+use mathlib.Core.Path.{_≡_, refl, ap}
 use mathlib.Core.Bool.{Bool, true, false}
-use mathlib.Core.List.{List, [], _++_, append-nil, append-assoc}
-use Prim.Native.Nat.{ℕ, _+_, _≤_, _<_}
+use mathlib.Core.List.{List, [], _++_, flatten}
+use Prim.Native.Nat.{ℕ, _<_}
 use native.Mathlib.Omega.{arith}
-use lib.ListN.{length, drop}
-use lib.Seq.{drop-drop, drop-append-le}
+use lib.ListN.{length}
 use Rattle.runs.specs.Worked.{AsExpected}
 use Rattle.words.specs.MapWord.{mapBits, mapWordOf}
 use Rattle.words.specs.FrameWord.{frameBits, frameWordOf}
@@ -30,30 +29,15 @@ use Rattle.trace_records.specs.declared.decoding.Decoded.the-variants.{Record, 
 use Rattle.trace_records.proofs.DecodeLaws.{unfinished-size}
 use Rattle.trace_lines.specs.Line.{numeral, decimal, lineText}
 use Rattle.trace_lines.specs.declared.lines.Line.the-variants.{First}
-use Rattle.trace.specs.Replay.{Replay, Advance, waiting, unlessStopped, advanceOf, textBefore, outcome, outcomeOf, freshReplay, closing, replayText}
-use Rattle.trace.specs.Contracts.{Continues}
+use Rattle.trace.specs.Replay.{Replay, Advance, waiting, unlessStopped, advanceOf, outcomeOf, freshReplay, replayText, piecesText}
 use Rattle.trace.specs.Cases.{cases}
-use Rattle.trace.proofs.ReplayLaws.{one-record}
+use Rattle.trace.proofs.ReplayLaws.{no-bytes}
+use Rattle.trace.proofs.PieceLaws.{pieces-joined}
 
--- A log in two pieces: what the first left unread stands before the second, and the texts stand one behind the other.
-pub continues-then : (start between left : Replay) (a b x y : List ℕ) (n m : ℕ) → n ≤ length a → Continues start a between n x
-    → Continues between (drop n a ++ b) left m y
-    → Continues start (a ++ b) left (n + m) (x ++ y)
-continues-then start between left a b x y n m h f g later =
-    let rest : drop (n + m) (a ++ b) ≡ drop m (drop n a ++ b) = sym (drop-drop m n (a ++ b)) ∙ ap (λ (l : List ℕ). drop m l) (drop-append-le n a b h) in
-    rw (append-assoc, f (b ++ later), ← append-assoc (drop n a) b later, g later, rest, append-assoc)
-
-waiting-outcome : (r : Replay) (s : List ℕ) → advanceOf r s ≡ waiting r → outcomeOf r s ≡ outcome [] r s
-waiting-outcome r s h = one-record r s ∙ rw h
-
--- At the end of a log, where a replay waits for more bytes: the first line, the text so far and the last lines are the whole output.
-pub whole-text : (left : Replay) (log text : List ℕ) (n : ℕ) → Continues freshReplay log left n text → advanceOf left (drop n log) ≡ waiting left
-    → replayText log ≡ lineText First ++ (text ++ closing (left .answered) (length (drop n log)))
+-- However a log is cut into pieces, the first line and what they come to in turn are the text of the whole log.
+pub any-pieces : (ps : List (List ℕ)) → lineText First ++ piecesText freshReplay [] ps ≡ replayText (flatten ps)
 unfolding replayText
-whole-text left log text n h waits =
-    let all : outcomeOf freshReplay log ≡ textBefore text (outcome [] left (drop n log)) =
-    rw (append-nil, append-nil, waiting-outcome left (drop n log) waits) at (h []) in
-    rw (all, append-nil)
+any-pieces ps = rw (pieces-joined ps freshReplay [] (no-bytes freshReplay))
 
 -- While a replay waits, the bytes that it has not taken are fewer than those of the longest record.
 held-by : (b : Bool) (r : Replay) (s : List ℕ) (d : Decoded) → r .stopped ≡ b → decodeOf s ≡ d

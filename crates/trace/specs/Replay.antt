@@ -1,6 +1,6 @@
 -- Document 01, "Trace program": a replay record by record, and the whole output of a whole log.
 use mathlib.Core.Bool.{Bool, true, false, cond}
-use mathlib.Core.List.{List, [], _++_}
+use mathlib.Core.List.{List, [], _∷_, _++_}
 use Prim.Native.Nat.{ℕ, zero, suc, _+_, _%_, _^_}
 use lib.Dec.{eqb}
 use lib.ListN.{length, drop}
@@ -95,3 +95,8 @@ unfoldable pub replayText : List ℕ → List ℕ
 replayText log =
     let o = outcomeOf freshReplay log in
     lineText line.First ++ (o .text ++ closing (o .left .answered) (length (o .rest)))
+
+-- a log that comes in pieces: what is held of those before stands before the next, and behind the last come the last lines
+abbrev pub piecesText : Replay → List ℕ → List (List ℕ) → List ℕ
+piecesText r held [] = closing (r .answered) (length held)
+piecesText r held (p ∷ ps) = let o = outcomeOf r (held ++ p) in o .text ++ piecesText (o .left) (o .rest) ps
