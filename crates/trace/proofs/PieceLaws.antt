@@ -2,10 +2,15 @@
 use mathlib.Core.Path.{_≡_, refl, _∙_, sym, ap}
 use mathlib.Core.Bool.{Bool, true, false}
 use mathlib.Core.List.{List, [], _∷_, _++_, append-nil, append-assoc, append-cancel-left, flatten}
-use Prim.Native.Nat.{ℕ, zero, suc, _≤_}
+use Prim.Native.Nat.{ℕ, zero, suc, _≤_, _<_}
 use native.Mathlib.Omega.{arith}
 use lib.ListN.{length, drop, length-drop}
-use Rattle.trace.specs.Replay.{Replay, ReplayOutcome, advanceOf, outcome, textBefore, outcomeOf, closing, piecesText}
+use lib.Seq.{drop-length}
+use Rattle.trace_records.specs.Record.{decodeOf}
+use Rattle.trace_records.specs.declared.decoding.Decoded.{Decoded}
+use Rattle.trace_records.specs.declared.decoding.Decoded.the-variants.{Record, Bad, Unfinished}
+use Rattle.trace_records.proofs.DecodeLaws.{unfinished-size}
+use Rattle.trace.specs.Replay.{Replay, ReplayOutcome, unlessStopped, advanceOf, outcome, textBefore, outcomeOf, closing, piecesText}
 use Rattle.trace.proofs.ReplayLaws.{took, one-record, outcome-advances}
 
 -- some bytes and others behind them: what the first left stands before the others
@@ -35,7 +40,7 @@ settles : (r : Replay) (s : List ℕ) → Settled (outcomeOf r s .left) (outcome
 settles r s =
     let o = outcomeOf r s in
     let more = outcomeOf (o .left) (o .rest) in
-    let same : o ≡ textBefore (o .text) more = rw (append-nil, append-nil) at (joins r s []) in
+    let same : o ≡ textBefore (o .text) more = rw (append-nil s, append-nil (o .rest)) at (joins r s []) in
     let none : [] ≡ more .text = append-cancel-left (o .text) [] (more .text) (append-nil (o .text) ∙ ap (λ (x : ReplayOutcome). x .text) same) in
     rw (sym none, sym (ap (λ (x : ReplayOutcome). x .left) same), sym (ap (λ (x : ReplayOutcome). x .rest) same))
 
@@ -47,3 +52,27 @@ pieces-joined [] r held h = rw (append-nil held, h)
 pieces-joined (p ∷ ps) r held h =
     let o = outcomeOf r (held ++ p) in
     rw (← append-assoc held p (flatten ps), joins r (held ++ p) (flatten ps), pieces-joined ps (o .left) (o .rest) (settles r (held ++ p)), append-assoc)
+
+-- what is left is the beginning of a record, which has fewer bytes than the longest
+left-by : (b : Bool) (r : Replay) (s : List ℕ) (d : Decoded) → decodeOf s ≡ d → unlessStopped b r s d .more ≡ false
+    → length (drop (unlessStopped b r s d .taken) s) < 37
+left-by true r s d q e = rw (drop-length s) (omega arith)
+left-by false r s (Record c n) q e = let z : _≡_ {A = ℕ} 0 1 = cc in absurd (omega arith)
+left-by false r s Bad q e = rw (drop-length s) (omega arith)
+left-by false r s Unfinished q e = unfinished-size s q
+
+rest-by : (b : Bool) (r : Replay) (s : List ℕ) → advanceOf r s .more ≡ b
+    → (b ≡ true → length (outcomeOf (advanceOf r s .left) (drop (advanceOf r s .taken) s) .rest) < 37)
+    → length (outcomeOf r s .rest) < 37
+unfolding advanceOf
+rest-by true r s e h = rw (one-record r s, e) (h refl)
+rest-by false r s e h = rw (one-record r s, e) (left-by (r .stopped) r s (decodeOf s) refl e)
+
+rest-within : (k : ℕ) (r : Replay) (s : List ℕ) → length s ≤ k → length (outcomeOf r s .rest) < 37
+rest-within zero r s h = rest-by (advanceOf r s .more) r s refl (λ e. absurd (omega (arith, took r s .0, took r s .1 e)))
+rest-within (suc k) r s h =
+    let a = advanceOf r s in
+    rest-by (a .more) r s refl (λ e. rest-within k (a .left) (drop (a .taken) s) (simp length-drop (omega (arith, took r s .1 e))))
+
+pub held-at-most : (r : Replay) (s : List ℕ) → length (outcomeOf r s .rest) < 37
+held-at-most r s = rest-within (length s) r s (omega arith)

@@ -11,13 +11,9 @@ use Rattle.trace_records.specs.declared.decoding.Decoded.{Decoded}
 use Rattle.trace_records.specs.declared.decoding.Decoded.the-variants.{Record, Bad, Unfinished}
 use Rattle.trace_records.proofs.DecodeLaws.{record-size, record-stays}
 use Rattle.trace_records.proofs.BadLaws.{bad-stays}
-use Rattle.trace.specs.Replay.{Replay, replay, Advance, advance, advanceBy, unlessStopped, advanceOf, ReplayOutcome, outcome, textBefore, readOn, recordByRecord, outcomeOf}
+use Rattle.trace.specs.Replay.{Replay, replay, Advance, advanceBy, unlessStopped, advanceOf, ReplayOutcome, outcome, textBefore, readOn, recordByRecord, outcomeOf}
 
 -- what a record comes to, by what the bytes are
-pub advance-stopped : (r : Replay) (s : List ℕ) → r .stopped ≡ true → advanceOf r s ≡ advance r (length s) [] false
-unfolding advanceOf
-advance-stopped r s e = rw e
-
 pub advance-decoded : (r : Replay) (s : List ℕ) (d : Decoded) → r .stopped ≡ false → decodeOf s ≡ d → advanceOf r s ≡ advanceBy r s d
 unfolding advanceOf
 advance-decoded r s d e q = rw (e, q)
@@ -78,7 +74,7 @@ one-record r s =
     (λ e. enough (length s) (length (drop (a .taken) s)) (a .left) (drop (a .taken) s) (simp length-drop (omega arith)) (omega arith))
 
 -- after a bad record all bytes are passed over
-stopped-outcome : (r : Replay) (s : List ℕ) → r .stopped ≡ true → outcomeOf r s ≡ outcome [] r []
+pub stopped-outcome : (r : Replay) (s : List ℕ) → r .stopped ≡ true → outcomeOf r s ≡ outcome [] r []
 unfolding advanceOf
 stopped-outcome r s e = one-record r s ∙ rw (e, drop-length s)
 

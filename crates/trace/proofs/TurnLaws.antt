@@ -1,7 +1,7 @@
 -- One turn of a replay, by what the bytes are: a call decided on one record, a bad record, or none yet.
-use mathlib.Core.Path.{_≡_, refl}
+use mathlib.Core.Path.{_≡_, refl, _∙_}
 use mathlib.Core.Bool.{Bool, true, false}
-use mathlib.Core.List.{List}
+use mathlib.Core.List.{List, []}
 use Prim.Native.Nat.{ℕ, _%_}
 use lib.ListN.{length, getD}
 use Rattle.records.specs.Monitor.{zeroGuest}
@@ -18,10 +18,10 @@ use Rattle.trace_records.specs.declared.decoding.Decoded.the-variants.{Record, 
 use Rattle.trace_lines.specs.Line.{lineText}
 use Rattle.trace_lines.specs.Puts.{Puts}
 use Rattle.trace_lines.specs.declared.lines.Line.the-variants as line
-use Rattle.trace.specs.Replay.{Replay, replay, nextCount, waiting, advanceOf}
+use Rattle.trace.specs.Replay.{Replay, replay, nextCount, advanceOf, outcome, outcomeOf}
 use Rattle.trace.specs.Contracts.{Answers}
 use Rattle.trace.specs.declared.session.AnsweredRecord.{AnsweredRecord}
-use Rattle.trace.proofs.ReplayLaws.{advance-decoded}
+use Rattle.trace.proofs.ReplayLaws.{advance-decoded, one-record}
 use Rattle.trace.proofs.ContinueLaws.{Advances}
 
 -- a call decided by the record read where its slot's number says is the step
@@ -36,9 +36,6 @@ going frames map m n b = replay (state frames map m) n b
 module _ (frames map : List ℕ) (m : Monitor) (n : ℕ) (s : List ℕ) where
   -- a call, decided on the record g that was read for its slot v
   module _ (c : Call) (size : ℕ) (e : decodeOf s ≡ Record c size) where
-    pub record-goes : advanceOf (going frames map m n false) s .more ≡ true
-    record-goes = rw (advance-decoded (going frames map m n false) s (Record c size) refl e)
-
     pub turn-record : (v : ℕ) (g : Guest) → v ≡ slotNumber (commandOf c .slot) m → g ≡ getD (m .guests) (v % 8) zeroGuest → (x : AnsweredRecord) (frames′ map′ before after : List ℕ) (p : ℕ)
         → Answers (resultOf (commandOf c) (view frames map v g)) frames′ map′ before p after x
         → (m′ : Monitor) → m′ ≡ withChange m v (x .change) → (k : ℕ) → k ≡ nextCount n
@@ -51,8 +48,7 @@ module _ (frames map : List ℕ) (m : Monitor) (n : ℕ) (s : List ℕ) where
       → Advances (advanceOf (going frames map m n false) s) (going frames map m n true) before p after (length s) q
   turn-bad e before after p q h = rw (advance-decoded (going frames map m n false) s Bad refl e) (record { keeps = refl; takes = refl; puts = h })
 
-  pub bad-ends : decodeOf s ≡ Bad → advanceOf (going frames map m n false) s .more ≡ false
-  bad-ends e = rw (advance-decoded (going frames map m n false) s Bad refl e)
-
-  pub turn-unfinished : decodeOf s ≡ Unfinished → advanceOf (going frames map m n false) s ≡ waiting (going frames map m n false)
-  turn-unfinished e = advance-decoded (going frames map m n false) s Unfinished refl e
+  -- the beginning of a record comes to nothing yet
+  pub turn-unfinished : decodeOf s ≡ Unfinished → outcomeOf (going frames map m n false) s ≡ outcome [] (going frames map m n false) s
+  turn-unfinished e =
+      one-record (going frames map m n false) s ∙ rw (advance-decoded (going frames map m n false) s Unfinished refl e)

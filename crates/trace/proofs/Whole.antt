@@ -1,10 +1,7 @@
--- Whole logs: the text of one that comes in pieces, how much of it is held between them, and document 01's cases.
-use mathlib.Core.Path.{_≡_, refl, ap}
-use mathlib.Core.Bool.{Bool, true, false}
+-- Whole logs: the text of one that comes in pieces, and document 01's cases.
+use mathlib.Core.Path.{_≡_, refl}
 use mathlib.Core.List.{List, [], _++_, flatten}
-use Prim.Native.Nat.{ℕ, _<_}
-use native.Mathlib.Omega.{arith}
-use lib.ListN.{length}
+use Prim.Native.Nat.{ℕ}
 use Rattle.runs.specs.Worked.{AsExpected}
 use Rattle.words.specs.MapWord.{mapBits, mapWordOf}
 use Rattle.words.specs.FrameWord.{frameBits, frameWordOf}
@@ -24,12 +21,9 @@ use Rattle.host_guests.specs.Calls.{createOf, runOf}
 use Rattle.calls.specs.Step.{step}
 use Rattle.trace_kinds.specs.RecordKind.{kindOf}
 use Rattle.trace_records.specs.Record.{decodeOf}
-use Rattle.trace_records.specs.declared.decoding.Decoded.{Decoded}
-use Rattle.trace_records.specs.declared.decoding.Decoded.the-variants.{Record, Bad, Unfinished}
-use Rattle.trace_records.proofs.DecodeLaws.{unfinished-size}
 use Rattle.trace_lines.specs.Line.{numeral, decimal, lineText}
 use Rattle.trace_lines.specs.declared.lines.Line.the-variants.{First}
-use Rattle.trace.specs.Replay.{Replay, Advance, waiting, unlessStopped, advanceOf, outcomeOf, freshReplay, replayText, piecesText}
+use Rattle.trace.specs.Replay.{advanceOf, outcomeOf, freshReplay, replayText, piecesText}
 use Rattle.trace.specs.Cases.{cases}
 use Rattle.trace.proofs.ReplayLaws.{no-bytes}
 use Rattle.trace.proofs.PieceLaws.{pieces-joined}
@@ -38,19 +32,6 @@ use Rattle.trace.proofs.PieceLaws.{pieces-joined}
 pub any-pieces : (ps : List (List ℕ)) → lineText First ++ piecesText freshReplay [] ps ≡ replayText (flatten ps)
 unfolding replayText
 any-pieces ps = rw (pieces-joined ps freshReplay [] (no-bytes freshReplay))
-
--- While a replay waits, the bytes that it has not taken are fewer than those of the longest record.
-held-by : (b : Bool) (r : Replay) (s : List ℕ) (d : Decoded) → r .stopped ≡ b → decodeOf s ≡ d
-    → unlessStopped b r s d ≡ waiting r
-    → length s < 37
-held-by true r s d e q h = let none = ap (λ (a : Advance). a .taken) h in omega arith
-held-by false r s (Record c n) e q h = let on = ap (λ (a : Advance). a .more) h in let z : _≡_ {A = ℕ} 0 1 = cc in absurd (omega arith)
-held-by false r s Bad e q h = let end = ap (λ (a : Advance). a .left .stopped) h in let z : _≡_ {A = ℕ} 0 1 = cc in absurd (omega arith)
-held-by false r s Unfinished e q h = unfinished-size s q
-
-pub held-at-most : (r : Replay) (s : List ℕ) → advanceOf r s ≡ waiting r → length s < 37
-unfolding advanceOf
-held-at-most r s h = held-by (r .stopped) r s (decodeOf s) refl refl h
 
 -- document 01's example and the empty input
 pub log-cases : AsExpected cases

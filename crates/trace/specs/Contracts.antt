@@ -1,8 +1,7 @@
 -- What the functions of a replay ensure.
 use mathlib.Core.Path.{_≡_}
-use mathlib.Core.Bool.{true, false}
-use mathlib.Core.List.{List, _++_}
-use Prim.Native.Nat.{ℕ, _+_, _≤_, _<_}
+use mathlib.Core.List.{List}
+use Prim.Native.Nat.{ℕ, _≤_, _<_}
 use lib.ListN.{length, take, drop}
 use Rattle.commands.specs.State.{state}
 use Rattle.answers.specs.Answer.{numbersOf}
@@ -13,7 +12,8 @@ use Rattle.trace_lines.specs.declared.lines.Line.the-variants as line
 use Rattle.trace.specs.declared.session.Session.{Session}
 use Rattle.trace.specs.declared.session.AnsweredRecord.{AnsweredRecord}
 use Rattle.trace.specs.declared.session.ReplayProgress.{ReplayProgress}
-use Rattle.trace.specs.Replay.{Replay, replay, waiting, advanceOf, textBefore, outcomeOf}
+use Rattle.trace.specs.declared.session.Turn.{Turn}
+use Rattle.trace.specs.Replay.{Replay, replay, outcome, outcomeOf}
 
 -- what a session keeps, with its tables
 abbrev pub kept : Session → List ℕ → List ℕ → Replay
@@ -26,15 +26,15 @@ pub record Answers (o : Result) (frames map before : List ℕ) (n : ℕ) (after 
   pub changes : r .change ≡ o .decision .change
   pub puts : Puts before n (lineText (line.Answer (numbersOf (o .decision .answer)))) after (r .put)
 
--- whatever bytes `later` follow: with n bytes taken and this text written, what is left comes to what all would have come to
-abbrev pub Continues : Replay → List ℕ → Replay → ℕ → List ℕ → Type 0
-Continues start bytes left n text =
-    (later : List ℕ) → outcomeOf start (bytes ++ later) ≡ textBefore text (outcomeOf left (drop n bytes ++ later))
-
--- of the bytes at hand: the text that was put goes before what is left; and there is nothing more to answer, or no room for another line
-pub record Replays (start left : Replay) (bytes : List ℕ) (out : List ℕ) (r : ReplayProgress) : Type 0 where
-  pub continues : Continues start bytes left (r .taken) (take (r .put) out)
+-- of some bytes at the start of a piece: what they come to is the text that was put, what is kept, and the bytes not taken
+pub record Replays (start : Replay) (bytes : List ℕ) (left : Replay) (out : List ℕ) (r : ReplayProgress) : Type 0 where
+  pub comes-to : outcomeOf start bytes ≡ outcome (take (r .put) out) left (drop (r .taken) bytes)
   pub within : r .taken ≤ length bytes
   pub room : r .put ≤ 65536
-  pub waits : r .waits ≡ true → advanceOf left (drop (r .taken) bytes) ≡ waiting left
-  pub full : r .waits ≡ false → 65536 < r .put + 105
+
+-- of a piece: what it comes to is the text that was put, what is kept, and the bytes held at the front of the input
+pub record Turns (start : Replay) (piece : List ℕ) (left : Replay) (input out : List ℕ) (r : Turn) : Type 0 where
+  pub comes-to : outcomeOf start piece ≡ outcome (take (r .put) out) left (take (r .held) input)
+  -- fewer than the longest record has, so there is room behind them
+  pub few : r .held < 37
+  pub room : r .put ≤ 65536

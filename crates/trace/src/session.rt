@@ -1,18 +1,19 @@
 ghost use mathlib.Core.Path.{_≡_};
 ghost use Prim.Native.Nat.{_+_, _≤_};
-ghost use Rattle.trace_lines.specs.Puts.{Puts};
 ghost use mathlib.Core.Bool.{_&&_};
 ghost use lib.Dec.{ltb};
+ghost use lib.ListN.{length, take};
+ghost use Rattle.trace_lines.specs.Puts.{Puts};
 ghost use Rattle.records.specs.Change.{alters};
 ghost use Rattle.commands.specs.Command.{view, resultOf};
 ghost use Rattle.calls.specs.Step.{commandOf};
 ghost use Rattle.trace.specs.Replay.{freshReplay, closing};
-ghost use Rattle.trace.specs.Contracts.{kept, Answers, Replays};
+ghost use Rattle.trace.specs.Contracts.{kept, Answers, Replays, Turns};
+use crate::tail::keep;
 use calls::Call;
 use records::Change;
 use records::Guest;
 use records::Monitor;
-use trace_lines::LONGEST;
 use trace_lines::Line;
 use trace_lines::ROOM;
 use trace_records::Decoded;
@@ -22,6 +23,9 @@ use trace_records::decode;
 pub const FRAMES: usize = 256;
 
 pub const MAP_WORDS: usize = 512;
+
+// The bytes that a piece can have at the most, with those held before it. Their text has room in the buffer.
+pub const PIECE: usize = 3115;
 
 // What a replay keeps beside the tables.
 pub struct Session {
@@ -39,13 +43,19 @@ pub struct AnsweredRecord {
     pub put: usize,
 }
 
-// How far a replay got: the bytes taken, the bytes put into the buffer, and whether it waits for more input. Where it does not, the buffer is
-// full, and what is left of the input is to be handed over again.
+// How far a replay got: the bytes taken, and the bytes put into the buffer.
 pub struct ReplayProgress {
     pub session: Session,
     pub taken: usize,
     pub put: usize,
-    pub waits: bool,
+}
+
+// What a piece came to, beside the tables: the bytes of an unfinished record, held at the front of the input for the next piece, and the bytes
+// put into the buffer.
+pub struct Turn {
+    pub session: Session,
+    pub held: usize,
+    pub put: usize,
 }
 
 impl Session {
@@ -62,31 +72,60 @@ impl Session {
         }
     }
 
+    // Answers the records of a piece, which are the first `filled` bytes of the input, and puts their lines into the buffer. The bytes of a
+    // record that is not yet finished go to the front of the input. Where `filled` is beyond the input, all of it counts. What stands behind
+    // the bytes held and behind those put is of no meaning.
+    pub fn turn(
+        self,
+        frames: &mut [u32],
+        map: &mut [u32],
+        input: &mut [u8; PIECE],
+        filled: usize,
+        out: &mut [u8; ROOM],
+    ) -> Turn
+        ensures { λ r. ⌜ Turns (kept self (now (frames .entry)) (now (map .entry))) (take filled (now (input .entry)))
+            (kept (r .session) (now (frames .exit)) (now (map .exit))) (now (input .exit)) (now (out .exit)) r ⌝ }
+    {
+        let mut end = filled;
+        if PIECE < filled {
+            end = PIECE;
+        }
+        let bytes: &mut [u8] = input;
+        let progress = self.replay(frames, map, &bytes[0..end], out);
+        let session = progress.session;
+        let put = progress.put;
+        Turn {
+            session,
+            held: keep(bytes, progress.taken, end),
+            put,
+        }
+    }
+
     // Answers the records at the start of some bytes in turn, and puts their lines into the buffer. It ends where a record is bad or not yet
-    // finished, or where there is no room for another line.
-    pub fn replay(
+    // finished, or where there are no more bytes.
+    fn replay(
         self,
         frames: &mut [u32],
         map: &mut [u32],
         bytes: &[u8],
         out: &mut [u8; ROOM],
     ) -> ReplayProgress
-        ensures { λ r. ⌜ Replays (kept self (now (frames .entry)) (now (map .entry))) (kept (r .session) (now (frames .exit)) (now (map .exit)))
-            (now (bytes .entry)) (now (out .exit)) r ⌝ }
+        requires { ⌜ length (now bytes) ≤ 3115 ⌝ }
+        ensures { λ r. ⌜ Replays (kept self (now (frames .entry)) (now (map .entry))) (now (bytes .entry))
+            (kept (r .session) (now (frames .exit)) (now (map .exit))) (now (out .exit)) r ⌝ }
     {
         if self.stopped {
             return ReplayProgress {
                 session: self,
                 taken: bytes.len(),
                 put: 0,
-                waits: true,
             };
         }
         let mut monitor = self.monitor;
         let mut answered = self.answered;
         let mut taken: usize = 0;
         let mut put: usize = 0;
-        while put <= ROOM - LONGEST {
+        while taken < bytes.len() {
             match decode(&bytes[taken..]) {
                 Decoded::Unfinished => {
                     return ReplayProgress {
@@ -97,7 +136,6 @@ impl Session {
                         },
                         taken,
                         put,
-                        waits: true,
                     };
                 }
                 Decoded::Bad => {
@@ -109,7 +147,6 @@ impl Session {
                         },
                         taken: bytes.len(),
                         put: Line::Bad.put(out, put),
-                        waits: true,
                     };
                 }
                 Decoded::Record(call, size) => {
@@ -135,7 +172,6 @@ impl Session {
             },
             taken,
             put,
-            waits: false,
         }
     }
 

@@ -3,7 +3,7 @@ ghost use lib.ListN.{length, take, drop};
 
 // Moves the bytes from one place of a buffer up to another to its front, and answers how many there are. Where the second place is beyond the
 // buffer, its end counts; where it is before the first, there are none.
-pub fn keep(buffer: &mut [u8], from: usize, to: usize) -> usize
+pub(crate) fn keep(buffer: &mut [u8], from: usize, to: usize) -> usize
     ensures { λ r. ⌜ r ≡ length (drop from (take to (now (buffer .entry)))) ⌝ }
     ensures { λ r. ⌜ take r (now (buffer .exit)) ≡ drop from (take to (now (buffer .entry))) ⌝ }
 {

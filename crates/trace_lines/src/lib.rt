@@ -3,6 +3,5 @@
 mod lines;
 mod puts;
 
-pub use lines::LONGEST;
 pub use lines::Line;
 pub use puts::ROOM;

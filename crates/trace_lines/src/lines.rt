@@ -7,7 +7,7 @@ use crate::puts::put_cell;
 use answers::Numbers;
 
 // The bytes of the longest line: five numbers of 20 digits, each with the byte behind it.
-pub const LONGEST: usize = 105;
+const LONGEST: usize = 105;
 
 // A line of a replay's output.
 pub enum Line {

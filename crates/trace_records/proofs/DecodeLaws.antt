@@ -59,9 +59,9 @@ good-by true true x c m n h = let z : _≡_ {A = ℕ} 0 1 = cc in absurd (omega 
 good-by true false x c m n h = (refl, refl, cc, cc)
 good-by false short x c m n h = let z : _≡_ {A = ℕ} 0 1 = cc in absurd (omega arith)
 
--- a good record is at hand whole, has more than two bytes, and stays one
+-- a good record is at hand whole, has five bytes at least, and stays one
 good : (f : Found) (a b v k : ℕ) (s t : List ℕ) (c : Call) (n : ℕ) → recordIn f (a ∷ b ∷ v ∷ k ∷ s) ≡ Record c n
-    → (2 < n) × (n ≤ length (a ∷ b ∷ v ∷ k ∷ s)) × (recordIn f (a ∷ b ∷ v ∷ k ∷ s ++ t) ≡ Record c n)
+    → (4 < n) × (n ≤ length (a ∷ b ∷ v ∷ k ∷ s)) × (recordIn f (a ∷ b ∷ v ∷ k ∷ s ++ t) ≡ Record c n)
 good Unknown a b v k s t c n h = let z : _≡_ {A = ℕ} 0 1 = cc in absurd (omega arith)
 good (Known x) a b v k s t c n h =
     let bytes = a ∷ b ∷ v ∷ k ∷ s in
@@ -72,13 +72,13 @@ good (Known x) a b v k s t c n h =
     (omega (arith, g .3), omega (arith, g .3), rw (g .0, le-ltb (length (bytes ++ t)) size longer, asked-stays x bytes t whole, g .2, g .3))
 
 good-seen : {s : List ℕ} → Seen s → (t : List ℕ) (c : Call) (n : ℕ) → decodeOf s ≡ Record c n
-    → (2 < n) × (n ≤ length s) × (decodeOf (s ++ t) ≡ Record c n)
+    → (4 < n) × (n ≤ length s) × (decodeOf (s ++ t) ≡ Record c n)
 good-seen (few s l) t c n h = absurd (short-not-good (startHolds s) c n (sym (by-start s l) ∙ h))
 good-seen (enough a b v k s) t c n h =
     let g = good (kindOf k) a b v k s t c n (sym (four a b v k s) ∙ h) in
     (g .0, g .1, four a b v k (s ++ t) ∙ g .2)
 
-pub record-size : (s : List ℕ) (c : Call) (n : ℕ) → decodeOf s ≡ Record c n → (2 < n) × (n ≤ length s)
+pub record-size : (s : List ℕ) (c : Call) (n : ℕ) → decodeOf s ≡ Record c n → (4 < n) × (n ≤ length s)
 record-size s c n h = let g = good-seen (seen s) [] c n h in (g .0, g .1)
 
 pub record-stays : (s t : List ℕ) (c : Call) (n : ℕ) → decodeOf s ≡ Record c n → decodeOf (s ++ t) ≡ Record c n
