@@ -1,7 +1,6 @@
 // Logs that the gate replays beside the one of `replay`: each log that an argument names is replayed by itself, as replay does, to standard
 // output. They are document 01's example, one for each sort of bad record, no input, and one of 5,047 records, which is longer than a
-// piece, with a text longer than the buffer. It rests on replay_stream, and on os, io and libc for its
-// arguments and files. It decides nothing.
+// piece. It rests on replay_stream, and on os, io and libc for its arguments and files. It decides nothing.
 use libc::STDOUT_FILENO;
 
 fn replay_file(number: usize) {
@@ -12,7 +11,7 @@ fn replay_file(number: usize) {
         os::fail(&path[..length]);
         return;
     }
-    replay_stream::replay(log, STDOUT_FILENO);
+    replay_stream::replay(log, STDOUT_FILENO, u64::MAX);
     libc::close(log);
 }
 
