@@ -33,7 +33,7 @@ pub any-pieces : (ps : List (List ℕ)) → lineText First ++ piecesText freshRe
 unfolding replayText
 any-pieces ps = rw (pieces-joined ps freshReplay [] (no-bytes freshReplay))
 
--- document 01's example and the empty input
+-- document 01's example, whole and in pieces, the empty input, and a log that is cut short
 pub log-cases : AsExpected cases
 unfolding replayText outcomeOf advanceOf decodeOf kindOf numeral decimal step createOf freeFrom donateOf runOf hypercallOf actOf functionOf callRowOf stepFrom changeOf rowVacant boundsOf frameState pairOf granuleState pairAt mapWordOf frameWordOf mapBits frameBits numbersOf guestOf withGuest framesHold mapHolds
 log-cases = refl

@@ -1,8 +1,11 @@
--- Document 01, "Trace program": its example, and the empty input.
+-- Document 01, "Trace program": its example, whole and in pieces, the empty input, and a log that is cut short.
 use mathlib.Core.List.{List, [], _∷_, _++_}
 use Prim.Native.Nat.{ℕ}
+use lib.ListN.{take, drop}
 use Rattle.runs.specs.Worked.{Case}
-use Rattle.trace.specs.Replay.{replayText}
+use Rattle.trace_lines.specs.Line.{lineText}
+use Rattle.trace_lines.specs.declared.lines.Line.the-variants.{First}
+use Rattle.trace.specs.Replay.{freshReplay, replayText, piecesText}
 
 -- the bytes before a record's arguments: length, version 1, kind, slot 0
 abbrev pub header : ℕ → ℕ → List ℕ
@@ -40,9 +43,20 @@ exampleText =
 abbrev pub emptyText : List ℕ
 emptyText = firstLine ++ (101 ∷ 110 ∷ 100 ∷ 32 ∷ 48 ∷ 10 ∷ [])
 
+-- "monitor 1", "0 0 0 0 0", "bad", "end 1"
+abbrev pub cutText : List ℕ
+cutText = firstLine ++ (zeros ++ ((98 ∷ 97 ∷ 100 ∷ 10 ∷ []) ++ (101 ∷ 110 ∷ 100 ∷ 32 ∷ 49 ∷ 10 ∷ [])))
+
 -- a log, and the whole output of its replay
 abbrev logCase : List ℕ → List ℕ → Case (List ℕ)
 logCase log text = record { found = replayText log; expected = text }
 
+-- the same with the log in pieces
+abbrev piecesCase : List (List ℕ) → List ℕ → Case (List ℕ)
+piecesCase pieces text = record { found = lineText First ++ piecesText freshReplay [] pieces; expected = text }
+
+-- the example with a cut in its second record, and a log that ends in the first bytes of one
 abbrev pub cases : List (Case (List ℕ))
-cases = logCase exampleLog exampleText ∷ logCase [] emptyText ∷ []
+cases =
+    logCase exampleLog exampleText ∷ logCase [] emptyText ∷ piecesCase (take 7 exampleLog ∷ drop 7 exampleLog ∷ []) exampleText
+    ∷ piecesCase (header 3 1 ∷ (0 ∷ []) ∷ []) cutText ∷ []

@@ -1,10 +1,11 @@
 -- Lines as a whole: the longest has 105 bytes, and one that has room is put whole.
-use mathlib.Core.Path.{_≡_}
+use mathlib.Core.List.{List}
 use Prim.Native.Nat.{ℕ, _+_, _≤_}
 use native.Mathlib.Omega.{arith}
 use borrow.Author.Tests.{le-leb}
 use lib.ListN.{length, length-append}
 use Rattle.trace_lines.specs.Line.{lineText, textPut}
+use Rattle.trace_lines.specs.Puts.{Puts}
 use Rattle.trace_lines.specs.declared.lines.Line.{Line}
 use Rattle.trace_lines.specs.declared.lines.Line.the-variants.{First, Answer, Bad, Last}
 use Rattle.trace_lines.proofs.DecimalLaws.{decimal-short, cell-short}
@@ -17,5 +18,5 @@ line-length (Answer a) =
 line-length Bad = omega arith
 line-length (Last n) = omega (arith, cell-short n 10)
 
-pub textPut-room : (n : ℕ) (l : Line) → n + 105 ≤ 65536 → textPut n l ≡ lineText l
-textPut-room n l h = rw (le-leb n 65431 (omega arith))
+pub put-whole : {b a : List ℕ} {n r : ℕ} (l : Line) → n + 105 ≤ 65536 → Puts b n (textPut n l) a r → Puts b n (lineText l) a r
+put-whole {n} l h p = rw (le-leb n 65431 (omega arith)) at p

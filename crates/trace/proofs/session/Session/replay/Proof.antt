@@ -15,7 +15,8 @@ use Rattle.commands.proofs.InPlace.{stored-in-place, kept-in-place}
 use Rattle.trace_records.specs.Record.{decodeOf}
 use Rattle.trace_records.specs.declared.decoding.Decoded.the-variants.{Record}
 use Rattle.trace_records.proofs.DecodeLaws.{record-size}
-use Rattle.trace_lines.proofs.LineLaws.{textPut-room}
+use Rattle.trace_lines.proofs.LineLaws.{put-whole}
+use Rattle.trace_lines.specs.declared.lines.Line.the-variants.{Bad}
 use Rattle.trace.specs.Replay.{Replay, advanceOf}
 use Rattle.trace.specs.Contracts.{kept}
 use Rattle.trace.proofs.ReplayLaws.{stopped-outcome}
@@ -134,7 +135,7 @@ returns-3 c =
     let l = at .loop in
     let bytes = bytes-at at in
     let is = sym (decoded (c .before .before .before .before)) ∙ c .before .before .enum-told2 .given .1 in
-    let puts = rw (textPut-room (l .put) _ (fits (c .before .before .before .before .before .before))) at (c .put .ensures) in
+    let puts = put-whole Bad (fits (c .before .before .before .before .before .before)) (c .put .ensures) in
     let turned = turn-bad (l .frames) (l .map) (l .monitor) (l .answered) (ahead at) is (l .out) _ (l .put) _ puts in
     let all : l .taken + length (ahead at) ≡ length bytes = simp length-drop (omega (arith, l .inv .1)) in
     let end = going (l .frames) (l .map) (l .monitor) (l .answered) true in
