@@ -1,5 +1,6 @@
 //! Compares the replay program with the model on random logs, each handed over
-//! in random pieces; some end in a bad record or in the middle of one.
+//! in random pieces; some end in a bad record or in the middle of one. One more
+//! log has 100,000 records, and comes one byte a read.
 //!
 //!     rustc --edition 2024 -O -o target/tests/replay tests/replay.rs
 //!     target/tests/replay PROGRAM [SEED [LOGS]]
@@ -18,9 +19,10 @@ use std::thread;
 
 const SEED: u64 = 1;
 const LOGS: u64 = 2000;
+const LONG_LOG: u64 = 100_000;
 
-/// The program reads 65,536 bytes at the most, behind up to 36 that it holds.
-const LONGEST_PIECE: u64 = 65_500;
+/// The program has room for 3,115 bytes, with up to 36 that it holds.
+const LONGEST_PIECE: u64 = 3115 - 36;
 
 /// Where the log of a difference is left.
 const DIFFERENT: &str = "target/tests/different.trace";
@@ -63,28 +65,31 @@ fn slot_byte(slot: u64) -> u8 {
     u8::try_from(slot).unwrap_or(128 + (slot % 8) as u8)
 }
 
-/// Good records, with calls that fit what the earlier ones left. Some logs have
-/// thousands of short records, whose lines are longer than a block of text.
-fn good_log(random: &mut Random) -> Vec<u8> {
+/// Good records, with calls that fit what the earlier ones left.
+fn good_log(random: &mut Random, records: u64) -> Vec<u8> {
     let mut memory = fresh();
     let mut log = vec![];
-    for _ in 0..random.pick(&[0, 1, 4, 30, 300, 300, 5000]) {
+    let mut made = 0;
+    while made < records {
         let bytes = record(generate::call(random, &memory), random.within(0, 255) as u8);
         if let Some((call, _)) = front(&bytes) {
             model::perform(&mut memory, call);
+            made += 1;
         }
         log.extend(bytes);
-    }
-    if random.within(0, 15) == 0 {
-        log.extend(record(Call::Create, 0).repeat(14_000));
     }
     log
 }
 
-/// Half of the logs stay good. The others are cut short, end in some bytes of a
-/// good record or in one with another header, or have a bit changed.
+/// Some logs end in thousands of the shortest records. Half of the logs stay good.
+/// The others are cut short, end in some bytes of a good record or in one with
+/// another header, or have a bit changed.
 fn log(random: &mut Random) -> Vec<u8> {
-    let mut log = good_log(random);
+    let records = random.pick(&[0, 1, 4, 30, 300, 300, 5000]);
+    let mut log = good_log(random, records);
+    if random.within(0, 15) == 0 {
+        log.extend(record(Call::Create, 0).repeat(14_000));
+    }
     let place = random.within(0, log.len() as u64) as usize;
     match random.within(0, 7) {
         0 => log.truncate(place),
@@ -181,9 +186,17 @@ fn text(mut log: &[u8], tally: &mut Tally) -> String {
     text + &format!("end {answered}\n")
 }
 
+/// The longest piece of a log.
+fn longest(random: &mut Random, log: &[u8]) -> u64 {
+    match log.len() {
+        0..10_000 => random.pick(&[1, 3, 40, 700]),
+        _ => random.pick(&[700, LONGEST_PIECE]),
+    }
+}
+
 /// What the program writes for a log. A datagram is one read of the program, and
 /// an empty one is the end of its input.
-fn replay(program: &str, random: &mut Random, mut log: &[u8]) -> io::Result<String> {
+fn replay(program: &str, random: &mut Random, mut log: &[u8], longest: u64) -> io::Result<String> {
     let (to, from) = UnixDatagram::pair()?;
     let mut child = Command::new(program)
         .stdin(OwnedFd::from(from))
@@ -194,10 +207,6 @@ fn replay(program: &str, random: &mut Random, mut log: &[u8]) -> io::Result<Stri
         let mut text = String::new();
         output.read_to_string(&mut text).map(|_| text)
     });
-    let longest = match log.len() {
-        0..10_000 => random.pick(&[1, 3, 40, 700]),
-        _ => random.pick(&[700, LONGEST_PIECE]),
-    };
     while !log.is_empty() {
         let size = random.within(1, longest).min(log.len() as u64);
         let (piece, rest) = log.split_at(size as usize);
@@ -240,13 +249,19 @@ fn main() -> ExitCode {
         eprintln!("usage: replay PROGRAM [SEED [LOGS]]");
         return ExitCode::from(2);
     };
-    println!("seed {seed}, {logs} logs");
+    println!("seed {seed}, {logs} logs, and one of {LONG_LOG} records");
     let mut random = Random::new(seed);
     let mut tally = Tally::default();
-    for number in 0..logs {
-        let log = log(&mut random);
+    for number in 0..=logs {
+        let (log, longest) = if number < logs {
+            let log = log(&mut random);
+            let longest = longest(&mut random, &log);
+            (log, longest)
+        } else {
+            (good_log(&mut random, LONG_LOG), 1)
+        };
         let model = text(&log, &mut tally);
-        let written = replay(&program, &mut random, &log);
+        let written = replay(&program, &mut random, &log, longest);
         if !written.as_ref().is_ok_and(|text| *text == model) {
             println!(
                 "difference at log {} of seed {seed}, left in {DIFFERENT}",
@@ -262,7 +277,7 @@ fn main() -> ExitCode {
     }
     println!("verdict 0 to 13: {:?}; bad: {}", tally.verdicts, tally.bad);
     let missing = tally.missing();
-    println!("{logs} passed, {missing} failed");
+    println!("{} passed, {missing} failed", logs + 1);
     if missing == 0 {
         ExitCode::SUCCESS
     } else {
