@@ -1,7 +1,8 @@
 -- Whole logs: the text of one that comes in pieces, and document 01's cases.
 use mathlib.Core.Path.{_≡_, refl}
-use mathlib.Core.List.{List, [], _++_, flatten}
+use mathlib.Core.List.{List, [], _∷_, _++_, flatten}
 use Prim.Native.Nat.{ℕ}
+use lib.ListN.{take}
 use Rattle.runs.specs.Worked.{AsExpected}
 use Rattle.words.specs.MapWord.{mapBits, mapWordOf}
 use Rattle.words.specs.FrameWord.{frameBits, frameWordOf}
@@ -23,7 +24,9 @@ use Rattle.trace_kinds.specs.RecordKind.{kindOf}
 use Rattle.trace_records.specs.Record.{decodeOf}
 use Rattle.trace_lines.specs.Line.{numeral, decimal, lineText}
 use Rattle.trace_lines.specs.declared.lines.Line.the-variants.{First}
-use Rattle.trace.specs.Replay.{advanceOf, outcomeOf, freshReplay, replayText, piecesText}
+use Rattle.trace.specs.Replay.{Replay, advanceOf, outcomeOf, freshReplay, replayText, piecesText}
+use Rattle.trace.specs.Contracts.{Turns}
+use Rattle.trace.specs.declared.session.Turn.{Turn}
 use Rattle.trace.specs.Cases.{cases}
 use Rattle.trace.proofs.ReplayLaws.{no-bytes}
 use Rattle.trace.proofs.PieceLaws.{pieces-joined}
@@ -32,6 +35,11 @@ use Rattle.trace.proofs.PieceLaws.{pieces-joined}
 pub any-pieces : (ps : List (List ℕ)) → lineText First ++ piecesText freshReplay [] ps ≡ replayText (flatten ps)
 unfolding replayText
 any-pieces ps = rw (pieces-joined ps freshReplay [] (no-bytes freshReplay))
+
+-- A turn on the bytes held and a piece behind them is one step: its text, and then the text of the pieces that follow.
+pub turn-first : (start left : Replay) (held p input out : List ℕ) (r : Turn) (ps : List (List ℕ)) → Turns start (held ++ p) left input out r
+    → piecesText start held (p ∷ ps) ≡ take (r .put) out ++ piecesText left (take (r .held) input) ps
+turn-first start left held p input out r ps h = rw (h .comes-to)
 
 -- document 01's example, whole and in pieces, the empty input, and a log that is cut short
 pub log-cases : AsExpected cases

@@ -175,12 +175,12 @@ impl Session {
         }
     }
 
-    // Puts the last lines, with so many bytes left of the input.
-    pub fn close(self, left: usize, out: &mut [u8; ROOM]) -> usize
-        ensures { λ r. ⌜ Puts (now (out .entry)) 0 (closing (self .answered) left) (now (out .exit)) r ⌝ }
+    // Puts the last lines, with so many bytes held. What stands behind them in the buffer is of no meaning.
+    pub fn close(self, held: usize, out: &mut [u8; ROOM]) -> usize
+        ensures { λ r. ⌜ Puts (now (out .entry)) 0 (closing (self .answered) held) (now (out .exit)) r ⌝ }
     {
         let answered = self.answered;
-        if left == 0 {
+        if held == 0 {
             return Line::Last(answered).put(out, 0);
         }
         let next = Line::Bad.put(out, 0);
