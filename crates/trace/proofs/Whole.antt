@@ -17,6 +17,7 @@ use Rattle.functions.specs.Function.{functionOf}
 use Rattle.call_table.specs.Table.{callRowOf}
 use Rattle.guest_hypercalls.specs.Calls.{actOf, hypercallOf}
 use Rattle.rows.specs.WholeRow.{rowVacant}
+use Rattle.host_registers.specs.Registers.{registerNumbered}
 use Rattle.host_donation.specs.Calls.{donateOf}
 use Rattle.host_guests.specs.Calls.{createOf, runOf}
 use Rattle.calls.specs.Step.{step}
@@ -41,7 +42,7 @@ pub turn-first : (start left : Replay) (held p input out : List ℕ) (r : Turn) 
     → piecesText start held (p ∷ ps) ≡ take (r .put) out ++ piecesText left (take (r .held) input) ps
 turn-first start left held p input out r ps h = rw (h .comes-to)
 
--- document 01's example, whole and in pieces, the empty input, and a log that is cut short
+-- document 01's example, whole and in pieces, the empty input, logs that are bad and cut short, and one at the bounds
 pub log-cases : AsExpected cases
-unfolding replayText outcomeOf advanceOf decodeOf kindOf numeral decimal step createOf freeFrom donateOf runOf hypercallOf actOf functionOf callRowOf stepFrom changeOf rowVacant boundsOf frameState pairOf granuleState pairAt mapWordOf frameWordOf mapBits frameBits numbersOf guestOf withGuest framesHold mapHolds
+unfolding replayText outcomeOf advanceOf decodeOf kindOf numeral decimal step createOf freeFrom donateOf runOf registerNumbered hypercallOf actOf functionOf callRowOf stepFrom changeOf rowVacant boundsOf frameState pairOf granuleState pairAt mapWordOf frameWordOf mapBits frameBits numbersOf guestOf withGuest framesHold mapHolds
 log-cases = refl

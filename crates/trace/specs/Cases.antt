@@ -1,4 +1,4 @@
--- Document 01, "Trace program": its example, whole and in pieces, the empty input, and a log that is cut short.
+-- Document 01, "Trace program": its example, whole and in pieces, the empty input, logs that are bad and cut short, and one at the bounds.
 use mathlib.Core.List.{List, [], _∷_, _++_}
 use Prim.Native.Nat.{ℕ}
 use lib.ListN.{take, drop}
@@ -47,6 +47,33 @@ emptyText = firstLine ++ (101 ∷ 110 ∷ 100 ∷ 32 ∷ 48 ∷ 10 ∷ [])
 abbrev pub cutText : List ℕ
 cutText = firstLine ++ (zeros ++ ((98 ∷ 97 ∷ 100 ∷ 10 ∷ []) ++ (101 ∷ 110 ∷ 100 ∷ 32 ∷ 49 ∷ 10 ∷ [])))
 
+-- a create, a record of version 2, and another create: what stands behind a bad record is not read
+abbrev pub badLog : List ℕ
+badLog = header 3 1 ++ ((0 ∷ 3 ∷ 2 ∷ 1 ∷ 0 ∷ []) ++ header 3 1)
+
+-- "F is 256, W is 64.": create, donate frame 0 at granules 64 and 63, access of frames 256 and 255, and a read of register 3
+abbrev pub boundsLog : List ℕ
+boundsLog =
+    header 3 1
+    ++ (header 19 2 ++ (argument 0 0 0 0 ++ (argument 0 0 0 64
+    ++ (header 19 2 ++ (argument 0 0 0 0 ++ (argument 0 0 0 63
+    ++ (header 11 8 ++ (argument 0 0 1 0
+    ++ (header 11 8 ++ (argument 0 0 0 255
+    ++ (header 11 9 ++ argument 0 0 0 3)))))))))))
+
+-- "4 0 0 0 0"
+abbrev pub outOfRange : List ℕ
+outOfRange = 52 ∷ 32 ∷ 48 ∷ 32 ∷ 48 ∷ 32 ∷ 48 ∷ 32 ∷ 48 ∷ 10 ∷ []
+
+-- "monitor 1", "0 0 0 0 0", "4 0 0 0 0", "0 0 0 0 0", "4 0 0 0 0", "0 1 0 0 0", "9 18446744073709551614 0 0 0", "end 6"
+abbrev pub boundsText : List ℕ
+boundsText =
+    firstLine
+    ++ (zeros ++ (outOfRange ++ (zeros ++ (outOfRange
+    ++ ((48 ∷ 32 ∷ 49 ∷ 32 ∷ 48 ∷ 32 ∷ 48 ∷ 32 ∷ 48 ∷ 10 ∷ [])
+    ++ ((57 ∷ 32 ∷ 49 ∷ 56 ∷ 52 ∷ 52 ∷ 54 ∷ 55 ∷ 52 ∷ 52 ∷ 48 ∷ 55 ∷ 51 ∷ 55 ∷ 48 ∷ 57 ∷ 53 ∷ 53 ∷ 49 ∷ 54 ∷ 49 ∷ 52 ∷ 32 ∷ 48 ∷ 32 ∷ 48 ∷ 32 ∷ 48 ∷ 10 ∷ [])
+    ++ (101 ∷ 110 ∷ 100 ∷ 32 ∷ 54 ∷ 10 ∷ [])))))))
+
 -- a log, and the whole output of its replay
 abbrev logCase : List ℕ → List ℕ → Case (List ℕ)
 logCase log text = record { found = replayText log; expected = text }
@@ -58,5 +85,5 @@ piecesCase pieces text = record { found = lineText First ++ piecesText freshRepl
 -- the example with a cut in its second record, and a log that ends in the first bytes of one
 abbrev pub cases : List (Case (List ℕ))
 cases =
-    logCase exampleLog exampleText ∷ logCase [] emptyText ∷ piecesCase (take 7 exampleLog ∷ drop 7 exampleLog ∷ []) exampleText
+    logCase exampleLog exampleText ∷ logCase [] emptyText ∷ logCase badLog cutText ∷ logCase boundsLog boundsText ∷ piecesCase (take 7 exampleLog ∷ drop 7 exampleLog ∷ []) exampleText
     ∷ piecesCase (header 3 1 ∷ (0 ∷ []) ∷ []) cutText ∷ []
