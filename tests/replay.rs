@@ -21,8 +21,8 @@ const SEED: u64 = 1;
 const LOGS: u64 = 2000;
 const LONG_LOG: u64 = 100_000;
 
-/// The program has room for 3,115 bytes, with up to 36 that it holds.
-const LONGEST_PIECE: u64 = 3115 - 36;
+/// The program has room for 6,236 bytes, with up to 36 that it holds.
+const LONGEST_PIECE: u64 = 6236 - 36;
 
 /// Where the log of a difference is left.
 const DIFFERENT: &str = "target/tests/different.trace";

@@ -16,7 +16,7 @@ pub(crate) enum Piece {
 
 // Reads behind the bytes that are held, which stay.
 pub(crate) fn read_behind(from: i32, input: &mut [u8; PIECE], held: usize) -> Piece
-    requires { ⌜ held ≤ 3115 ⌝ }
+    requires { ⌜ held ≤ 6236 ⌝ }
     ensures { λ r. ⌜ take held (now (input .exit)) ≡ take held (now (input .entry)) ⌝ }
 {
     let bytes: &mut [u8] = input;

@@ -20,7 +20,7 @@ use trace_lines::ROOM;
 pub fn replay(from: i32, to: i32, pieces: u64) {
     let mut frames = [0u32; FRAMES];
     let mut map = [0u32; MAP_WORDS];
-    let mut out = io::large_buffer();
+    let mut out = [0u8; ROOM];
     let session = Session::begin(&mut frames, &mut map);
     let count = Line::First.put(&mut out, 0);
     if write_out(to, &out, count) {

@@ -82,8 +82,9 @@ logCase log text = record { found = replayText log; expected = text }
 abbrev piecesCase : List (List ℕ) → List ℕ → Case (List ℕ)
 piecesCase pieces text = record { found = lineText First ++ piecesText freshReplay [] pieces; expected = text }
 
--- the example with a cut in its second record, and a log that ends in the first bytes of one
+-- the example with a cut in its second record, a log that ends in the first bytes of one, and a piece that comes behind a bad record
 abbrev pub cases : List (Case (List ℕ))
 cases =
     logCase exampleLog exampleText ∷ logCase [] emptyText ∷ logCase badLog cutText ∷ logCase boundsLog boundsText ∷ piecesCase (take 7 exampleLog ∷ drop 7 exampleLog ∷ []) exampleText
-    ∷ piecesCase (header 3 1 ∷ (0 ∷ []) ∷ []) cutText ∷ []
+    ∷ piecesCase (header 3 1 ∷ (0 ∷ []) ∷ []) cutText
+    ∷ piecesCase (take 10 badLog ∷ header 3 1 ∷ []) cutText ∷ []

@@ -30,11 +30,11 @@ pub record Answers (o : Result) (frames map before : List ℕ) (n : ℕ) (after 
 pub record Replays (start : Replay) (bytes : List ℕ) (left : Replay) (out : List ℕ) (r : ReplayProgress) : Type 0 where
   pub comes-to : outcomeOf start bytes ≡ outcome (take (r .put) out) left (drop (r .taken) bytes)
   pub within : r .taken ≤ length bytes
-  pub room : r .put ≤ 65536
+  pub room : r .put ≤ 131072
 
 -- of a piece: what it comes to is the text that was put, what is kept, and the bytes held at the front of the input
 pub record Turns (start : Replay) (piece : List ℕ) (left : Replay) (input out : List ℕ) (r : Turn) : Type 0 where
   pub comes-to : outcomeOf start piece ≡ outcome (take (r .put) out) left (take (r .held) input)
   -- fewer than the longest record has, so there is room behind them
   pub few : r .held < 37
-  pub room : r .put ≤ 65536
+  pub room : r .put ≤ 131072

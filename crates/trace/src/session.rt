@@ -25,7 +25,7 @@ pub const FRAMES: usize = 256;
 pub const MAP_WORDS: usize = 512;
 
 // The bytes that a piece can have at the most, with those held before it. Their text has room in the buffer.
-pub const PIECE: usize = 3115;
+pub const PIECE: usize = 6236;
 
 // What a replay keeps beside the tables.
 pub struct Session {
@@ -110,7 +110,7 @@ impl Session {
         bytes: &[u8],
         out: &mut [u8; ROOM],
     ) -> ReplayProgress
-        requires { ⌜ length (now bytes) ≤ 3115 ⌝ }
+        requires { ⌜ length (now bytes) ≤ 6236 ⌝ }
         ensures { λ r. ⌜ Replays (kept self (now (frames .entry)) (now (map .entry))) (now (bytes .entry))
             (kept (r .session) (now (frames .exit)) (now (map .exit))) (now (out .exit)) r ⌝ }
     {
@@ -198,7 +198,7 @@ fn answer(
     out: &mut [u8; ROOM],
     at: usize,
 ) -> AnsweredRecord
-    requires { ⌜ at + 105 ≤ 65536 ⌝ }
+    requires { ⌜ at + 105 ≤ 131072 ⌝ }
     ensures { λ r. ⌜ Answers (resultOf (commandOf call) (view (now (frames .entry)) (now (map .entry)) slot guest)) (now (frames .exit)) (now (map .exit))
         (now (out .entry)) at (now (out .exit)) r ⌝ }
 {

@@ -18,5 +18,5 @@ line-length (Answer a) =
 line-length Bad = omega arith
 line-length (Last n) = omega (arith, cell-short n 10)
 
-pub put-whole : {b a : List ℕ} {n r : ℕ} (l : Line) → n + 105 ≤ 65536 → Puts b n (textPut n l) a r → Puts b n (lineText l) a r
-put-whole {n} l h p = rw (le-leb n 65431 (omega arith)) at p
+pub put-whole : {b a : List ℕ} {n r : ℕ} (l : Line) → n + 105 ≤ 131072 → Puts b n (textPut n l) a r → Puts b n (lineText l) a r
+put-whole {n} l h p = rw (le-leb n 130967 (omega arith)) at p

@@ -35,6 +35,6 @@ lineText (Answer a) = answerText a
 lineText Bad = 98 ∷ 97 ∷ 100 ∷ 10 ∷ []
 lineText (Last n) = (101 ∷ 110 ∷ 100 ∷ 32 ∷ []) ++ cell n 10
 
--- what is put behind the first n bytes of a buffer of 65,536: nothing where there is no room for the longest line
+-- what is put behind the first n bytes of a buffer of 131,072: nothing where there is no room for the longest line
 abbrev pub textPut : ℕ → Line → List ℕ
-textPut n line = cond (leb n (65536 - 105)) (lineText line) []
+textPut n line = cond (leb n (131072 - 105)) (lineText line) []

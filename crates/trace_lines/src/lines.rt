@@ -35,7 +35,7 @@ impl Line {
 
     // The same where there is room.
     fn put_text(self, out: &mut [u8; ROOM], at: usize) -> usize
-        requires { ⌜ at + 105 ≤ 65536 ⌝ }
+        requires { ⌜ at + 105 ≤ 131072 ⌝ }
         ensures { λ r. ⌜ Puts (now (out .entry)) at (lineText self) (now (out .exit)) r ⌝ }
     {
         match self {
@@ -56,7 +56,7 @@ impl Line {
 
 // The verdict and v0 to v3 in one line.
 fn put_answer(out: &mut [u8; ROOM], at: usize, numbers: Numbers) -> usize
-    requires { ⌜ at + 105 ≤ 65536 ⌝ }
+    requires { ⌜ at + 105 ≤ 131072 ⌝ }
     ensures { λ r. ⌜ Puts (now (out .entry)) at (answerText numbers) (now (out .exit)) r ⌝ }
 {
     let a = put_cell(out, at, numbers.verdict, b' ');

@@ -5,11 +5,11 @@ ghost use Rattle.trace_lines.specs.Line.{cell, decimal, digit};
 ghost use Rattle.trace_lines.specs.Puts.{Puts};
 
 // The bytes of a buffer for lines.
-pub const ROOM: usize = 65536;
+pub const ROOM: usize = 131072;
 
 // Puts bytes into the buffer behind the first `at`, and answers how many there are then.
 pub(crate) fn put_bytes(out: &mut [u8; ROOM], at: usize, bytes: &[u8]) -> usize
-    requires { ⌜ at + length (now bytes) ≤ 65536 ⌝ }
+    requires { ⌜ at + length (now bytes) ≤ 131072 ⌝ }
     ensures { λ r. ⌜ Puts (now (out .entry)) at (now (bytes .entry)) (now (out .exit)) r ⌝ }
 {
     let room: &mut [u8] = out;
@@ -23,7 +23,7 @@ pub(crate) fn put_bytes(out: &mut [u8; ROOM], at: usize, bytes: &[u8]) -> usize
 
 // Puts one digit.
 fn put_digit(out: &mut [u8; ROOM], at: usize, value: u8) -> usize
-    requires { ⌜ (at < 65536) × (value < 10) ⌝ }
+    requires { ⌜ (at < 131072) × (value < 10) ⌝ }
     ensures { λ r. ⌜ Puts (now (out .entry)) at (digit value ∷ []) (now (out .exit)) r ⌝ }
 {
     let room: &mut [u8] = out;
@@ -33,7 +33,7 @@ fn put_digit(out: &mut [u8; ROOM], at: usize, value: u8) -> usize
 
 // Puts a number in decimals. Most numbers of an answer have one digit.
 fn put_decimal(out: &mut [u8; ROOM], at: usize, number: u64) -> usize
-    requires { ⌜ at + 20 ≤ 65536 ⌝ }
+    requires { ⌜ at + 20 ≤ 131072 ⌝ }
     ensures { λ r. ⌜ Puts (now (out .entry)) at (decimal number) (now (out .exit)) r ⌝ }
 {
     if number < 10 {
@@ -46,7 +46,7 @@ fn put_decimal(out: &mut [u8; ROOM], at: usize, number: u64) -> usize
 
 // Puts a number in decimals, and one byte behind it.
 pub(crate) fn put_cell(out: &mut [u8; ROOM], at: usize, number: u64, end: u8) -> usize
-    requires { ⌜ at + 21 ≤ 65536 ⌝ }
+    requires { ⌜ at + 21 ≤ 131072 ⌝ }
     ensures { λ r. ⌜ Puts (now (out .entry)) at (cell number end) (now (out .exit)) r ⌝ }
 {
     let next = put_decimal(out, at, number);

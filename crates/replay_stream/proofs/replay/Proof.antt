@@ -15,5 +15,5 @@ slice-aggregate-read-on-2 c = sym (ap (λ (r : Replay). length (r .state .map)) 
 pub replay-spec : {M : Type 1} → statement M
 replay-spec =
     tie.close
-    (tie.spec (λ c κs. search needs) (λ c κs. search needs) (λ c κs. search needs) (λ c κs. search needs) slice-aggregate-read-on
+    (tie.spec (λ c κs. search needs) (λ c κs. search needs) (λ c κs. search needs) slice-aggregate-read-on
     slice-aggregate-read-on-2 (λ c κs. search needs) (λ c. search needs) (λ c. search needs))

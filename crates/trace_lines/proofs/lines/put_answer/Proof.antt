@@ -10,16 +10,16 @@ use Rattle.trace_lines.proofs.lines.put_answer.Tie as tie
 put-cell-requires : tie.Need-put-cell-requires
 put-cell-requires c κs = search needs
 
-after-one : (c : tie.After-put-cell) → c .put-cell .result + 84 ≤ 65536
+after-one : (c : tie.After-put-cell) → c .put-cell .result + 84 ≤ 131072
 after-one c = omega (arith, after-cell _ _ (c .put-cell .ensures))
 
-after-two : (c : tie.After-put-cell2) → c .put-cell2 .result + 63 ≤ 65536
+after-two : (c : tie.After-put-cell2) → c .put-cell2 .result + 63 ≤ 131072
 after-two c = omega (arith, after-cell _ _ (c .put-cell2 .ensures), after-one (c .before .before))
 
-after-three : (c : tie.After-put-cell3) → c .put-cell3 .result + 42 ≤ 65536
+after-three : (c : tie.After-put-cell3) → c .put-cell3 .result + 42 ≤ 131072
 after-three c = omega (arith, after-cell _ _ (c .put-cell3 .ensures), after-two (c .before .before))
 
-after-four : (c : tie.After-put-cell4) → c .put-cell4 .result + 21 ≤ 65536
+after-four : (c : tie.After-put-cell4) → c .put-cell4 .result + 21 ≤ 131072
 after-four c = omega (arith, after-cell _ _ (c .put-cell4 .ensures), after-three (c .before .before))
 
 put-cell-requires-2 : tie.Need-put-cell-requires-2

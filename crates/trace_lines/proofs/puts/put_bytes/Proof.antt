@@ -1,4 +1,4 @@
--- The bytes so far are put, and each turn puts one more behind them. That the buffer is 65,536 long comes from the slice made of it.
+-- The bytes so far are put, and each turn puts one more behind them. That the buffer is 131,072 long comes from the slice made of it.
 use Prim.Native.Nat.{_+_, _-_, _≤_}
 use mathlib.Core.Path.{_≡_}
 use native.Mathlib.Omega.{arith}
@@ -10,7 +10,7 @@ use Rattle.trace_lines.proofs.puts.put_bytes.Statement.{statement}
 use Rattle.trace_lines.proofs.puts.put_bytes.Tie as tie
 
 abbrev Inv-loop : tie.InvT-loop
-Inv-loop at bytes room₀ i₀ room i = (i ≤ length bytes) × Puts room₀ at (take i bytes) room (at + i) × (length room ≡ 65536)
+Inv-loop at bytes room₀ i₀ room i = (i ≤ length bytes) × Puts room₀ at (take i bytes) room (at + i) × (length room ≡ 131072)
 
 abbrev μ-loop : tie.MeasureT-loop
 μ-loop at bytes room₀ i₀ room i = length bytes - i

@@ -47,7 +47,7 @@ abbrev here : tie.At-loop Inv-loop μ-loop → Replay
 here c = going (c .loop .frames) (c .loop .map) (c .loop .monitor) (c .loop .answered) false
 
 -- there is room for a line
-fits : (c : tie.In-loop Inv-loop μ-loop) → c .before .loop .put + 105 ≤ 65536
+fits : (c : tie.In-loop Inv-loop μ-loop) → c .before .loop .put + 105 ≤ 131072
 fits c = omega (arith, c .before .loop .inv .2, c .loop-test .taken, c .before .before .before .before .before .before .before .pre)
 
 -- what the bytes that are left begin with

@@ -11,13 +11,13 @@ use Rattle.trace.proofs.PieceLaws.{held-at-most}
 use Rattle.trace.proofs.session.Session.turn.Statement.{statement}
 use Rattle.trace.proofs.session.Session.turn.Tie as tie
 
-end-least : (c : tie.Joined1) → c .if1 .end ≡ min (c .before .before .before .args .filled) 3115
+end-least : (c : tie.Joined1) → c .if1 .end ≡ min (c .before .before .before .args .filled) 6236
 end-least c = ⊎-elim (λ w. omega arith) (λ w. omega arith) (c .if1 .came)
 
 piece : (c : tie.After-row-known) → let a = c .before .before .before .before .before .before .before .args in take (a .filled) (a .input .now) ≡ take (c .before .before .before .before .if1 .end) (a .input .now)
 piece c =
     let a = c .before .before .before .before .before .before .before .args in
-    let all : (n : ℕ) → 3115 ≤ n → take n (a .input .now) ≡ a .input .now = λ n h. take-all n (a .input .now) (omega arith) in
+    let all : (n : ℕ) → 6236 ≤ n → take n (a .input .now) ≡ a .input .now = λ n h. take-all n (a .input .now) (omega arith) in
     let end = c .before .before .before .before .if1 in
     ⊎-elim (λ w. all (a .filled) (omega arith) ∙ sym (all (end .end) (omega arith))) (λ w. rw (w .1)) (end .came)
 
