@@ -9,10 +9,11 @@ use Rattle.records.specs.Monitor.{withFlags, withBitmaps, zeroGuest, newGuest, 
 use Rattle.answers.specs.Answer.{numbers, verdictWith}
 use Rattle.commands.specs.State.{State, state}
 use Rattle.records.specs.declared.guest.Guest.{Guest}
+use Rattle.records.specs.declared.monitor.Monitor.{Monitor}
 use Rattle.answers.specs.declared.answer.Numbers.{Numbers}
 use Rattle.functions.specs.Rules.{registers}
 use Rattle.calls.specs.declared.call.Call.{Call}
-use Rattle.calls.specs.declared.call.Call.the-variants.{Donate, Remove, Cleared, Access, RegisterRead, Hypercall, Abort}
+use Rattle.calls.specs.declared.call.Call.the-variants.{Donate, Cleared, Access, RegisterRead, Hypercall, Abort}
 use Rattle.claims.specs.Case.{case, leaves}
 use Rattle.claims.specs.Cases.{returnsDone, returnsError}
 
@@ -25,12 +26,20 @@ guestFrames = 0x04000000 ∷ 0x04010001 ∷ 0 ∷ 0xFF000000 ∷ 0x04000004 ∷ 
 abbrev pub guestRow : List ℕ
 guestRow = 0x40000000 ∷ 0x80000001 ∷ 0 ∷ 0xC0000000 ∷ 0x40000004 ∷ 0x40000005 ∷ 0x40000002 ∷ 0x40000007 ∷ []
 
--- slot 3 was run; it is enrolled or not, and has this VENDOR_HYP. Slot 2 is live and was never run.
+-- slot 3 was run; it is enrolled or not, and has this VENDOR_HYP
 abbrev pub callerWith : Bool → ℕ → Guest
 callerWith e x = withFlags true true e (withBitmaps 5 6 x zeroGuest)
 
+-- slot 2 is live and was never run; slot 4 is not live, and was run and enrolled
+abbrev pub callersWith : Bool → ℕ → Monitor
+callersWith e x = withGuest (withGuest (withGuest fresh 2 newGuest) 3 (callerWith e x)) 4 (withFlags false true true newGuest)
+
+-- rows of eight granules, this row of slot 3; granule 0 of slot 2 is damaged
+abbrev pub mapWith : List ℕ → List ℕ
+mapWith row = replicate 16 0 ++ (0x40000002 ∷ replicate 7 0 ++ (row ++ replicate 32 0))
+
 abbrev pub guestState : Bool → ℕ → State
-guestState e x = state guestFrames (replicate 24 0 ++ (guestRow ++ replicate 32 0)) (withGuest (withGuest fresh 2 newGuest) 3 (callerWith e x))
+guestState e x = state guestFrames (mapWith guestRow) (callersWith e x)
 
 abbrev pub plain : State
 plain = guestState false 0
@@ -75,7 +84,7 @@ infoAnswer = numbers 10 4096 1 0 0
 abbrev pub isDamage : Numbers
 isDamage = verdictWith 6 0
 
--- "Features and UID answer NS while VENDOR_HYP bit 0 is clear": VENDOR_HYP 0 to 3, with registers that are not looked at
+-- Features and UID, "NS while VENDOR_HYP bit 0 is clear": VENDOR_HYP 0 to 3, with registers that are not looked at. Memory info and guard info.
 abbrev pub tellCases : List (Case Numbers)
 tellCases =
     case (guestState false 0) [] (asks 0x86000000 1 2 3) (returnsError 1)
@@ -86,7 +95,7 @@ tellCases =
     ∷ case (guestState false 1) [] (asks 0x8600FF01 1 2 3) uidAnswer
     ∷ case (guestState false 2) [] (asks 0x8600FF01 1 2 3) (returnsError 1)
     ∷ case (guestState false 3) [] (asks 0x8600FF01 1 2 3) uidAnswer
-    -- memory info and guard info: "R1 to R3 zero, else IP", "else NS"
+    -- "R1 to R3 zero, else IP", "else NS"
     ∷ case plain [] (asks 0xC6000002 0 0 0) infoAnswer
     ∷ case plain [] (asks 0xC6000002 1 0 0) (returnsError 3)
     ∷ case plain [] (asks 0xC6000002 0 1 0) (returnsError 3)
@@ -95,8 +104,12 @@ tellCases =
     ∷ case plain [] (asks 0xC6000005 (2 ^ 32) 0 0) (returnsError 1)
     ∷ case plain [] (asks 0xC6000005 0 1 0) (returnsError 1)
     ∷ case plain [] (asks 0xC6000005 0 0 1) (returnsError 1)
-    -- enroll: "0; twice is also 0", and only the one flag changes
-    ∷ case plain [] (asks 0xC6000006 1 2 3) (returnsDone 0)
+    ∷ []
+
+-- enroll: "0; twice is also 0", and only the one flag changes
+abbrev pub enrollCases : List (Case Numbers)
+enrollCases =
+    case plain [] (asks 0xC6000006 1 2 3) (returnsDone 0)
     ∷ case enrolled [] (asks 0xC6000006 1 2 3) (returnsDone 0)
     ∷ case plain (asks 0xC6000006 0 0 0 ∷ []) (RegisterRead 3 0) (verdictWith 0 5)
     ∷ case plain (asks 0xC6000006 0 0 0 ∷ []) (RegisterRead 3 1) (verdictWith 0 6)
@@ -107,19 +120,21 @@ tellCases =
 -- share and unshare
 abbrev pub shareCases : List (Case Numbers)
 shareCases =
-    -- a granule; several, up to the row's end; up to a damaged one; "Count 0 means 1"; each count that there is
+    -- share of a granule; of several, up to the row's end, up to a damaged one; "Count 0 means 1"; the greatest count
     case plain [] (asks 0xC6000003 0 1 0) (returnsDone 1)
     ∷ case plain [] (asks 0xC6000003 0x7000 2 0) (returnsDone 1)
     ∷ case plain [] (asks 0xC6000003 0x4000 4 0) (returnsDone 2)
     ∷ case plain [] (asks 0xC6000003 0x4000 1 0) (returnsDone 1)
     ∷ case plain [] (asks 0xC6000003 0x4000 0 0) (returnsDone 1)
     ∷ case plain [] (asks 0xC6000003 0x4000 (2 ^ 64 - 1) 0) (returnsDone 2)
+    -- the upper half of R0; which frames are open then
     ∷ case plain [] (asks 0xFFFFFFFFC6000003 0x4000 2 0) (returnsDone 2)
     ∷ case plain (asks 0xC6000003 0x4000 2 0 ∷ []) (Access 5) (verdictWith 0 1)
     ∷ case plain (asks 0xC6000003 0x4000 1 0 ∷ []) (Access 5) (verdictWith 0 0)
     ∷ case plain (asks 0xC6000003 0x4000 2 0 ∷ []) (asks 0xC6000004 0x4000 2 0) (returnsDone 2)
     ∷ case plain [] (asks 0xC6000003 0 1 1) (returnsError 3)
     ∷ case plain [] (asks 0xC6000003 0 1 (2 ^ 32)) (returnsError 3)
+    -- unshare
     ∷ case plain [] (asks 0xC6000004 0x1000 1 0) (returnsDone 1)
     ∷ case plain [] (asks 0xC6000004 0x1000 0 0) (returnsDone 1)
     ∷ case plain [] (asks 0xC6000004 0x1000 2 0) (returnsDone 1)
@@ -129,10 +144,10 @@ shareCases =
     ∷ case plain [] (asks 0xC6000003 0x6000 2 0) isDamage
     ∷ case plain [] (asks 0xC6000004 0x6000 2 0) isDamage
     ∷ []
-    -- shared, vacant, guarded, beyond the row, no base
-    ++ (each plain 0xC6000003 1 (returnsError 3) (0x1000 ∷ 0x2000 ∷ 0x3000 ∷ 0x8000 ∷ 0x4001 ∷ 0x4800 ∷ [])
-    -- private, vacant, guarded, beyond the row, no base
-    ++ each plain 0xC6000004 1 (returnsError 3) (0 ∷ 0x2000 ∷ 0x3000 ∷ 0x8000 ∷ 0x1001 ∷ 0x1800 ∷ []))
+    -- shared, vacant, guarded, beyond the row, by far, no base, no base of a damaged granule
+    ++ (each plain 0xC6000003 1 (returnsError 3) (0x1000 ∷ 0x2000 ∷ 0x3000 ∷ 0x8000 ∷ 0x100004000 ∷ 0x4001 ∷ 0x4800 ∷ 0x6001 ∷ [])
+    -- private, vacant, guarded, and so on
+    ++ each plain 0xC6000004 1 (returnsError 3) (0 ∷ 0x2000 ∷ 0x3000 ∷ 0x8000 ∷ 0x100001000 ∷ 0x1001 ∷ 0x1800 ∷ 0x6001 ∷ []))
 
 -- guard map, guard unmap and their ranges
 abbrev pub guardCases : List (Case Numbers)
@@ -167,11 +182,11 @@ guardCases =
     ++ (each plain 0xC6000008 1 (returnsError 1) (0x3000 ∷ 0x6000 ∷ [])
     ++ (each plain 0xC600000A 1 (returnsError 1) (0x2000 ∷ 0x6000 ∷ [])
     ++ (each plain 0xC600000B 1 (returnsError 1) (0x3000 ∷ 0x6000 ∷ [])
-    -- private, shared, guarded or vacant, beyond the row, no base
-    ++ (each enrolled 0xC6000007 1 (returnsError 1) (0 ∷ 0x1000 ∷ 0x3000 ∷ 0x8000 ∷ 0x2001 ∷ 0x2800 ∷ [])
-    ++ (each enrolled 0xC6000008 1 (returnsError 1) (0 ∷ 0x1000 ∷ 0x2000 ∷ 0x8000 ∷ 0x3001 ∷ 0x3800 ∷ [])
-    ++ (each enrolled 0xC600000A 1 (returnsError 1) (0 ∷ 0x1000 ∷ 0x3000 ∷ 0x8000 ∷ 0x2001 ∷ 0x2800 ∷ [])
-    ++ each enrolled 0xC600000B 1 (returnsError 1) (0 ∷ 0x1000 ∷ 0x2000 ∷ 0x8000 ∷ 0x3001 ∷ 0x3800 ∷ []))))))))
+    -- private, shared, guarded or vacant, beyond the row, by far, no base, no base of a damaged granule
+    ++ (each enrolled 0xC6000007 1 (returnsError 1) (0 ∷ 0x1000 ∷ 0x3000 ∷ 0x8000 ∷ 0x100002000 ∷ 0x2001 ∷ 0x2800 ∷ 0x6001 ∷ [])
+    ++ (each enrolled 0xC6000008 1 (returnsError 1) (0 ∷ 0x1000 ∷ 0x2000 ∷ 0x8000 ∷ 0x100003000 ∷ 0x3001 ∷ 0x3800 ∷ 0x6001 ∷ [])
+    ++ (each enrolled 0xC600000A 1 (returnsError 1) (0 ∷ 0x1000 ∷ 0x3000 ∷ 0x8000 ∷ 0x100002000 ∷ 0x2001 ∷ 0x2800 ∷ 0x6001 ∷ [])
+    ++ each enrolled 0xC600000B 1 (returnsError 1) (0 ∷ 0x1000 ∷ 0x2000 ∷ 0x8000 ∷ 0x100003000 ∷ 0x3001 ∷ 0x3800 ∷ 0x6001 ∷ []))))))))
 
 -- relinquish: "leaves it vacant and its frame waiting"
 abbrev pub relinquishCases : List (Case Numbers)
@@ -186,16 +201,18 @@ relinquishCases =
     ∷ case plain [] (asks 0xC6000009 0 0 1) (returnsError 3)
     ∷ case plain [] (asks 0xC6000009 0 0 (2 ^ 32)) (returnsError 3)
     ∷ case plain [] (asks 0xC6000009 0x6000 0 0) isDamage
+    ∷ case plain [] (asks 0xC6000009 0x6000 1 0) (returnsError 3)
     ∷ []
-    -- shared, vacant, guarded, beyond the row, no base
-    ++ each plain 0xC6000009 0 (returnsError 3) (0x1000 ∷ 0x2000 ∷ 0x3000 ∷ 0x8000 ∷ 0x4001 ∷ 0x4800 ∷ [])
+    -- shared, vacant, guarded, beyond the row, by far, no base, no base of a damaged granule
+    ++ each plain 0xC6000009 0 (returnsError 3) (0x1000 ∷ 0x2000 ∷ 0x3000 ∷ 0x8000 ∷ 0x100004000 ∷ 0x4001 ∷ 0x4800 ∷ 0x6001 ∷ [])
 
 -- "Anything else answers NS.": the numbers beside those of the table
 abbrev pub unknownCases : List (Case Numbers)
 unknownCases =
     unsupported (0 ∷ 0x85FFFFFF ∷ 0x86000001 ∷ 0x86000003 ∷ 0x8600FF00 ∷ 0x8600FF02 ∷ 0xC6000000 ∷ 0xC6000001 ∷ 0xC600000C ∷ 0xFFFFFFFF ∷ [])
 
--- verdicts 1 to 3, in this order and before all else: a length and a slot, a slot and a guest never run, a guest never run and a register
+-- verdicts 1 to 3, in this order and before all else: a length and a slot, a slot and a guest never run, a guest never run and a register, or
+-- a damaged granule. A record that isn't live counts as dead, and so do slots above 7 whose low bits are those of a guest.
 abbrev pub callerCases : List (Case Numbers)
 callerCases =
     case cut [] (Hypercall 2 (registers 0 0 0 0)) (verdictWith 1 0)
@@ -205,11 +222,19 @@ callerCases =
     ∷ case noGuestFrames [] (Abort 3 0x2000) (verdictWith 1 0)
     ∷ case plain [] (Hypercall 1 (registers 0xC6000003 1 0 0)) (verdictWith 2 0)
     ∷ case plain [] (Hypercall 8 (registers 0xC6000003 1 0 0)) (verdictWith 2 0)
-    ∷ case plain (Remove 2 ∷ []) (Abort 2 0) (verdictWith 2 0)
+    ∷ case plain [] (Hypercall 4 (registers 0x86000000 0 0 0)) (verdictWith 2 0)
+    ∷ case plain [] (Hypercall 259 (registers 0xC6000002 0 0 0)) (verdictWith 2 0)
+    ∷ case plain [] (Hypercall 0x100000003 (registers 0xC6000002 0 0 0)) (verdictWith 2 0)
+    ∷ case plain [] (Abort 1 0) (verdictWith 2 0)
+    ∷ case plain [] (Abort 4 0) (verdictWith 2 0)
     ∷ case plain [] (Abort 11 0x6000) (verdictWith 2 0)
+    ∷ case plain [] (Abort 259 0) (verdictWith 2 0)
+    ∷ case plain [] (Abort 0x100000003 0) (verdictWith 2 0)
     ∷ case plain [] (Hypercall 2 (registers 0xC6000003 1 0 0)) (verdictWith 3 0)
+    ∷ case plain [] (Hypercall 2 (registers 0xC6000003 0 1 0)) (verdictWith 3 0)
     ∷ case plain [] (Hypercall 2 (registers 0 0 0 0)) (verdictWith 3 0)
     ∷ case plain [] (Abort 2 0) (verdictWith 3 0)
+    ∷ case plain [] (Abort 2 0x1000) (verdictWith 3 0)
     ∷ []
 
 -- aborts of slot 3 at each address of a list, with an answer for each
@@ -232,20 +257,17 @@ abortCases =
     ++ (aborts enrolled resumes (0 ∷ 0xFFF ∷ 0x1000 ∷ 0x1ABC ∷ [])
     ++ (aborts plain exits (0x3000 ∷ 0x3001 ∷ [])
     ++ (aborts enrolled exits (0x3000 ∷ 0x3FFF ∷ [])
-    ++ (aborts plain exits (0x2000 ∷ 0x2ABC ∷ 0x8000 ∷ 0x8001 ∷ (2 ^ 64 - 1) ∷ [])
-    ++ (aborts enrolled excepts (0x2000 ∷ 0x2ABC ∷ 0x8000 ∷ 0x8001 ∷ (2 ^ 64 - 1) ∷ [])
+    ++ (aborts plain exits (0x2000 ∷ 0x2ABC ∷ 0x8000 ∷ 0x8001 ∷ 0x100000000 ∷ 0x100006000 ∷ (2 ^ 64 - 1) ∷ [])
+    ++ (aborts enrolled excepts (0x2000 ∷ 0x2ABC ∷ 0x8000 ∷ 0x8001 ∷ 0x100000000 ∷ 0x100003000 ∷ (2 ^ 64 - 1) ∷ [])
     ++ (aborts plain (λ a. isDamage) (0x6000 ∷ 0x6001 ∷ [])
     ++ aborts enrolled (λ a. isDamage) (0x6000 ∷ 0x6FFF ∷ [])))))))
 
 abbrev pub guestCases : List (Case Numbers)
-guestCases = tellCases ++ (shareCases ++ (guardCases ++ (relinquishCases ++ (unknownCases ++ (callerCases ++ abortCases)))))
+guestCases = tellCases ++ (enrollCases ++ (shareCases ++ (guardCases ++ (relinquishCases ++ (unknownCases ++ (callerCases ++ abortCases))))))
 
--- the state of slot 3 with other frame words and another row
-abbrev pub leftWith : List ℕ → List ℕ → Bool → State
-leftWith fs row e = state fs (replicate 24 0 ++ (row ++ replicate 32 0)) (withGuest (withGuest fresh 2 newGuest) 3 (callerWith e 7))
-
+-- a call that leaves these frame words, and this row of slot 3
 abbrev pub leftAfter : Bool → Call → List ℕ → List ℕ → Case State
-leftAfter e c fs row = leaves (guestState e 7) (c ∷ []) (leftWith fs row e)
+leftAfter e c fs row = leaves (guestState e 7) (c ∷ []) (state fs (mapWith row) (callersWith e 7))
 
 -- what calls leave: both tables and the records
 abbrev pub guestLeft : List (Case State)

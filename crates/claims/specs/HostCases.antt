@@ -2,7 +2,7 @@
 -- what the calls that are done leave; and the rows that show hands back. For verdicts that follow each other in the order of a call there is a
 -- case in which both tests fail.
 use mathlib.Core.Bool.{Bool, true, false}
-use mathlib.Core.List.{List, [], _∷_, _++_}
+use mathlib.Core.List.{List, [], _∷_, _++_, map}
 use Prim.Native.Nat.{ℕ, _-_, _^_}
 use lib.ListN.{replicate}
 use Rattle.runs.specs.Worked.{Case}
@@ -108,7 +108,9 @@ creations =
     ∷ case sound [] (Donate 1 2 2) (hostRefused 4)
     ∷ case damaged [] (Donate 0 4 0) (hostRefused 4)
     ∷ case damaged [] (Donate 0 0 2) (hostRefused 4)
-    -- frame waiting; frame shared; granule guarded; granule private
+    -- frame private, waiting, shared; granule shared, guarded, private
+    ∷ case sound [] (Donate 1 0 1) (hostRefused 5)
+    ∷ case sound [] (Donate 0 2 1) (hostRefused 5)
     ∷ case sound [] (Donate 1 3 1) (hostRefused 5)
     ∷ case sound [] (Donate 1 1 1) (hostRefused 5)
     ∷ case sound [] (Donate 1 2 0) (hostRefused 5)
@@ -138,7 +140,7 @@ runs =
     -- the first granule of the row is damaged, the second
     ∷ case damaged [] (Remove 0) (hostRefused 6)
     ∷ case (state frames (0x40000000 ∷ 0x40000002 ∷ replicate 14 0) records) [] (Remove 0) (hostRefused 6)
-    ∷ case damaged [] (Remove 2) (hostRefused 2)
+    -- no guest, and a row that is damaged; no such slot
     ∷ case secondDamaged [] (Remove 2) (hostRefused 2)
     ∷ case sound [] (Remove 8) (hostRefused 2)
     ∷ case shortMap [] (Remove 0) (hostRefused 1)
@@ -212,8 +214,18 @@ registerCases =
     ∷ case sound [] (RegisterWrite 8 0 0) (hostRefused 2)
     ∷ []
 
+-- slots above 7 whose low bits are those of a guest; frames, a granule and a value whose low half is small
+abbrev pub wideCases : List (Case Numbers)
+wideCases =
+    map (λ c. case sound [] c (hostRefused 2))
+    (Donate 257 2 1 ∷ Donate 0x100000001 2 1 ∷ Run 257 ∷ Run 0x100000001 ∷ Remove 257 ∷ Remove 0x100000001 ∷ Show 257 ∷ Show 0x100000001
+    ∷ RegisterRead 257 2 ∷ RegisterRead 0x100000001 2 ∷ RegisterWrite 257 2 1 ∷ RegisterWrite 0x100000001 2 1 ∷ [])
+    ++ (map (λ c. case sound [] c (hostRefused 4))
+    (Donate 1 0x100000002 1 ∷ Donate 1 2 0x100000001 ∷ Cleared 0x100000003 ∷ Access 0x100000002 ∷ [])
+    ++ (case sound [] (RegisterWrite 1 0 (2 ^ 32)) (registerRefused 22) ∷ []))
+
 abbrev pub hostCases : List (Case Numbers)
-hostCases = creations ++ (runs ++ (looks ++ registerCases))
+hostCases = creations ++ (runs ++ (looks ++ (registerCases ++ wideCases)))
 
 -- what calls leave: both tables and the records
 abbrev pub hostLeft : List (Case State)

@@ -61,11 +61,11 @@ boundsLog =
     ++ (header 11 8 ++ (argument 0 0 0 255
     ++ (header 11 9 ++ argument 0 0 0 3)))))))))))
 
--- "4 0 0 0 0"
+-- `4 0 0 0 0`
 abbrev pub outOfRange : List ℕ
 outOfRange = 52 ∷ 32 ∷ 48 ∷ 32 ∷ 48 ∷ 32 ∷ 48 ∷ 32 ∷ 48 ∷ 10 ∷ []
 
--- "monitor 1", "0 0 0 0 0", "4 0 0 0 0", "0 0 0 0 0", "4 0 0 0 0", "0 1 0 0 0", "9 18446744073709551614 0 0 0", "end 6"
+-- `monitor 1`, `0 0 0 0 0`, `4 0 0 0 0`, `0 0 0 0 0`, `4 0 0 0 0`, `0 1 0 0 0`, `9 18446744073709551614 0 0 0`, `end 6`
 abbrev pub boundsText : List ℕ
 boundsText =
     firstLine
