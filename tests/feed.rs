@@ -8,6 +8,7 @@ use std::io::{self, Read, Write};
 use std::os::fd::OwnedFd;
 use std::os::unix::net::UnixStream;
 use std::process::{Command, ExitCode, ExitStatus};
+use std::time::Duration;
 
 fn run(command: &[String]) -> io::Result<ExitStatus> {
     let mut log = vec![];
@@ -18,6 +19,8 @@ fn run(command: &[String]) -> io::Result<ExitStatus> {
         .stdin(OwnedFd::from(from.try_clone()?))
         .spawn()?;
     let (last, first) = log.split_last().ok_or(io::ErrorKind::UnexpectedEof)?;
+    // A command that reads no more must not hold this up.
+    to.set_write_timeout(Some(Duration::from_secs(10)))?;
     to.write_all(first)?;
     // The command has the same socket. A read that waits ends with the last byte, and the next one fails.
     from.set_nonblocking(true)?;

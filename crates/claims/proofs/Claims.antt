@@ -109,7 +109,8 @@ unfolding KeptRefused
 refusals-change-nothing c s h = step-kept c s h
 
 -- The same of what a program in C or Rust lends: a refusal leaves every word of the records and of both tables. A function of crates/embed
--- leaves `lentAfter` of the definition of its call, which is `lentAfter` of its step.
+-- leaves `lentAfter` of the definition of its call, which is `lentAfter` of its step; `clundip_show`, which is lent these to read alone, states
+-- its answer by it.
 pub lent-refusals-change-nothing : (c : Call) (w f m : List ℕ)
     → let a = numbersOf (step c (state f m (monitorIn w)) .answer) in
     isRefusal a ≡ true → lentAfter (step c) w f m ≡ lent w f m (answerWords a)

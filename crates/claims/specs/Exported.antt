@@ -10,7 +10,7 @@ use Rattle.host_removal.specs.Calls.{removeOf}
 use Rattle.calls.specs.declared.call.Call.{Call}
 use Rattle.calls.specs.declared.call.Call.the-variants.{Create, Donate, Run, Remove, Cleared, Access, Show, RegisterRead, RegisterWrite, Hypercall, Abort}
 
--- such a function leaves `lentAfter` of this; that of show is lent nothing but its answer to write
+-- such a function leaves `lentAfter` of this; that of show, which is lent records and map to read alone, states the answer of it
 abbrev pub exportedAs : Call → State → Answered
 exportedAs Create = createOf
 exportedAs (Donate v f g) = donateOf v f g

@@ -86,11 +86,6 @@ module _ {S R : Type 0} (f : S → ℕ) (call : ℕ → S → End S R)
     next-above n (ended k t (refused r)) h = tt
     next-above n (ended k t outOfFuel) h = tt
 
-    next-rising : (e : End S R) → Rising f (nextPiece next e)
-    next-rising (ended k t complete) = rising t
-    next-rising (ended k t (refused r)) = tt
-    next-rising (ended k t outOfFuel) = tt
-
     carried-rising : (g m : ℕ) (s : S) → Rising f (callsCarried call g m s ++ nextPiece next (carryOn call g m s))
     carried-rising zero zero s = rising s
     carried-rising zero (suc m) s = tt
