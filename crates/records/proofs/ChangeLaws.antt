@@ -24,7 +24,7 @@ change-either P m v d same put = on (alters d)
 -- for every change, the changed record is put in: `alters` says whether one has to be stored, and no more
 pub change-is-put : (m : Monitor) (v : ℕ) (d : Change) → withChange m v d ≡ withGuest m v (changed d (guestOf m v))
 change-is-put m v change.Kept = sym (put-own m v)
-change-is-put m v change.Created = refl
+change-is-put m v (change.Created legacy) = refl
 change-is-put m v change.Removed = refl
 change-is-put m v change.Run = refl
 change-is-put m v change.Enrolled = refl

@@ -25,7 +25,7 @@ withBitmap register.Unknown x g = g
 -- what a change makes of a record
 abbrev pub changed : Change → Guest → Guest
 changed change.Kept g = g
-changed change.Created g = newGuest
+changed (change.Created legacy) g = newGuest legacy
 changed change.Removed g = zeroGuest
 changed change.Run g = markRun g
 changed change.Enrolled g = enroll g
@@ -34,7 +34,7 @@ changed (change.Written r x) g = withBitmap r x g
 -- whether it alters a record at all
 abbrev pub alters : Change → Bool
 alters change.Kept = false
-alters change.Created = true
+alters (change.Created legacy) = true
 alters change.Removed = true
 alters change.Run = true
 alters change.Enrolled = true

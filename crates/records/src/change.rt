@@ -14,7 +14,10 @@ pub enum FirmwareRegister {
 // What a call does to the record of its slot.
 pub enum Change {
     Kept,
-    Created,
+    // With the kind of the guest.
+    Created {
+        legacy: bool,
+    },
     Removed,
     Run,
     Enrolled,
@@ -66,7 +69,7 @@ impl Change {
     {
         match self {
             Change::Kept => false,
-            Change::Created => true,
+            Change::Created { legacy: _ } => true,
             Change::Removed => true,
             Change::Run => true,
             Change::Enrolled => true,
@@ -77,15 +80,17 @@ impl Change {
         }
     }
 
-    // The record that it leaves. A guest just created has every field set anew, the bitmaps to their limits.
+    // The record that it leaves. A guest just created has every field set anew, the bitmaps to their limits; a legacy guest counts as enrolled.
     pub fn apply(self, mut guest: Guest) -> Guest
         ensures { λ r. ⌜ r ≡ changed self guest ⌝ }
     {
         match self {
             Change::Kept => guest,
-            Change::Created => {
+            Change::Created { legacy } => {
                 let mut created = Guest::zero();
                 created.live = true;
+                created.legacy = legacy;
+                created.enrolled = legacy;
                 created.vendor_hyp = 1;
                 created
             }

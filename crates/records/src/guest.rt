@@ -2,11 +2,13 @@ ghost use mathlib.Core.Path.{_≡_};
 ghost use Rattle.records.specs.Monitor.{zeroGuest, liveIn, guestIn, wordsOf};
 
 // The words of a record.
-pub const GUEST_WORDS: usize = 6;
+pub const GUEST_WORDS: usize = 7;
 
 // The record of a guest slot. A slot that is not live has no guest, whatever else its record holds.
 pub struct Guest {
     pub live: bool,
+    // It knows no ranges of granules.
+    pub legacy: bool,
     pub run: bool,
     pub enrolled: bool,
     pub std: u64,
@@ -21,11 +23,12 @@ impl Guest {
     {
         Guest {
             live: words[0] != 0,
-            run: words[1] != 0,
-            enrolled: words[2] != 0,
-            std: words[3],
-            std_hyp: words[4],
-            vendor_hyp: words[5],
+            legacy: words[1] != 0,
+            run: words[2] != 0,
+            enrolled: words[3] != 0,
+            std: words[4],
+            std_hyp: words[5],
+            vendor_hyp: words[6],
         }
     }
 
@@ -35,6 +38,7 @@ impl Guest {
     {
         [
             self.live as u64,
+            self.legacy as u64,
             self.run as u64,
             self.enrolled as u64,
             self.std,
