@@ -1,4 +1,4 @@
--- Document 01, "Guest calls": the table of guest calls, row by row.
+-- Document 01, "Guest calls": the table of guest calls, row by row; and document 02, Wish 1, the rows of guests that know no ranges.
 use mathlib.Core.Bool.{Bool, true, false, cond, _&&_}
 use Prim.Native.Nat.{ℕ}
 use lib.Dec.{eqb}
@@ -37,20 +37,41 @@ callRow a b c d e f = record { r1 = a; r2 = b; r3 = c; condition = d; error = e;
 
 -- the columns "Registers looked at" and "Answer"; "Features and UID answer NS while VENDOR_HYP bit 0 is clear"; "Guard map and unmap, both
 -- kinds, need enrolment"; "a range guard call with count 0 answers NS"
-unfoldable pub callRowOf : Function → CallRow
-callRowOf Features = callRow Any Any Any Vendor NotSupported (action.Tell 0xFFD 0 0 0)
-callRowOf Uid = callRow Any Any Any Vendor NotSupported (action.Tell 0xB66FB428 0xE911C52E 0x564BCAA9 0x743A004D)
-callRowOf MemoryInfo = callRow Zero Zero Zero Nothing InvalidParameter (action.Tell granuleSize 1 0 0)
-callRowOf Share = callRow Base Any Zero Nothing InvalidParameter (action.Change sharing AskedOrOne)
-callRowOf Unshare = callRow Base Any Zero Nothing InvalidParameter (action.Change unsharing AskedOrOne)
-callRowOf GuardInfo = callRow Zero Zero Zero Nothing NotSupported (action.Tell granuleSize 1 0 0)
-callRowOf Enroll = callRow Any Any Any Nothing NotSupported action.Enroll
-callRowOf GuardMap = callRow Base Any Any Enrolment NotSupported (action.Change guarding One)
-callRowOf GuardUnmap = callRow Base Any Any Enrolment NotSupported (action.Change unguarding One)
-callRowOf Relinquish = callRow Base Zero Zero Nothing InvalidParameter (action.Change relinquishing One)
-callRowOf RangeGuardMap = callRow Base NotZero Any Enrolment NotSupported (action.Change guarding Asked)
-callRowOf RangeGuardUnmap = callRow Base NotZero Any Enrolment NotSupported (action.Change unguarding Asked)
-callRowOf Unknown = callRow Any Any Any Nothing NotSupported action.Refuse
+unfoldable pub rangedRowOf : Function → CallRow
+rangedRowOf Features = callRow Any Any Any Vendor NotSupported (action.Tell 0xFFD 0 0 0)
+rangedRowOf Uid = callRow Any Any Any Vendor NotSupported (action.Tell 0xB66FB428 0xE911C52E 0x564BCAA9 0x743A004D)
+rangedRowOf MemoryInfo = callRow Zero Zero Zero Nothing InvalidParameter (action.Tell granuleSize 1 0 0)
+rangedRowOf Share = callRow Base Any Zero Nothing InvalidParameter (action.Change sharing AskedOrOne)
+rangedRowOf Unshare = callRow Base Any Zero Nothing InvalidParameter (action.Change unsharing AskedOrOne)
+rangedRowOf GuardInfo = callRow Zero Zero Zero Nothing NotSupported (action.Tell granuleSize 1 0 0)
+rangedRowOf Enroll = callRow Any Any Any Nothing NotSupported action.Enroll
+rangedRowOf GuardMap = callRow Base Any Any Enrolment NotSupported (action.Change guarding One)
+rangedRowOf GuardUnmap = callRow Base Any Any Enrolment NotSupported (action.Change unguarding One)
+rangedRowOf Relinquish = callRow Base Zero Zero Nothing InvalidParameter (action.Change relinquishing One)
+rangedRowOf RangeGuardMap = callRow Base NotZero Any Enrolment NotSupported (action.Change guarding Asked)
+rangedRowOf RangeGuardUnmap = callRow Base NotZero Any Enrolment NotSupported (action.Change unguarding Asked)
+rangedRowOf Unknown = callRow Any Any Any Nothing NotSupported action.Refuse
+
+-- "memory info returns R1 = 0; share and unshare want R2 zero, do one granule and return R1 = 0; 0xC6000007 is that document's MMIO guard, with
+-- R2 and R3 zero, −3 on error and no enrolment. Calls 5, 6, 8, 10 and 11 answer −1; features answers 0x29D." The others are as they were.
+unfoldable pub legacyRowOf : Function → CallRow
+legacyRowOf Features = callRow Any Any Any Vendor NotSupported (action.Tell 0x29D 0 0 0)
+legacyRowOf Uid = rangedRowOf Uid
+legacyRowOf MemoryInfo = callRow Zero Zero Zero Nothing InvalidParameter (action.Tell granuleSize 0 0 0)
+legacyRowOf Share = callRow Base Zero Zero Nothing InvalidParameter (action.Change sharing One)
+legacyRowOf Unshare = callRow Base Zero Zero Nothing InvalidParameter (action.Change unsharing One)
+legacyRowOf GuardInfo = rangedRowOf Unknown
+legacyRowOf Enroll = rangedRowOf Unknown
+legacyRowOf GuardMap = callRow Base Zero Zero Nothing InvalidParameter (action.Change guarding One)
+legacyRowOf GuardUnmap = rangedRowOf Unknown
+legacyRowOf Relinquish = rangedRowOf Relinquish
+legacyRowOf RangeGuardMap = rangedRowOf Unknown
+legacyRowOf RangeGuardUnmap = rangedRowOf Unknown
+legacyRowOf Unknown = rangedRowOf Unknown
+
+-- the table of the caller's kind
+abbrev pub callRowOf : Bool → Function → CallRow
+callRowOf legacy c = cond legacy (legacyRowOf c) (rangedRowOf c)
 
 abbrev pub registersHold : CallRow → Registers → Bool
 registersHold w r = meets (w .r1) (r .r1) && (meets (w .r2) (r .r2) && meets (w .r3) (r .r3))

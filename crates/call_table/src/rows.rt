@@ -4,7 +4,7 @@ ghost use Rattle.granules.specs.Kind.{operation};
 ghost use Rattle.functions.specs.declared.rules.Rule.the-variants.{Any, Zero, Base};
 ghost use Rattle.functions.specs.declared.rules.Condition.the-variants.{Nothing, Enrolment};
 ghost use Rattle.functions.specs.declared.rules.Error.the-variants.{NotSupported, InvalidParameter};
-ghost use Rattle.call_table.specs.Table.{granulesOf, isTold, callRow, callRowOf, registersHold};
+ghost use Rattle.call_table.specs.Table.{granulesOf, isTold, callRow, rangedRowOf, legacyRowOf, callRowOf, registersHold};
 use functions::Condition;
 use functions::Error;
 use functions::Function;
@@ -68,9 +68,20 @@ impl Count {
 }
 
 impl CallRow {
-    // The row of a call.
-    pub fn of(function: Function) -> CallRow
-        ensures { λ r. ⌜ r ≡ callRowOf function ⌝ }
+    // The row of a call, in the table of the caller's kind.
+    pub fn of(legacy: bool, function: Function) -> CallRow
+        ensures { λ r. ⌜ r ≡ callRowOf legacy function ⌝ }
+    {
+        if legacy {
+            CallRow::legacy(function)
+        } else {
+            CallRow::ranged(function)
+        }
+    }
+
+    // The row of a guest with ranges.
+    fn ranged(function: Function) -> CallRow
+        ensures { λ r. ⌜ r ≡ rangedRowOf function ⌝ }
     {
         match function {
             Function::Features => CallRow::any(Condition::Vendor, Action::tell(0xFFD, 0)),
@@ -83,7 +94,7 @@ impl CallRow {
                     r3: 0x743A_004D,
                 },
             ),
-            Function::MemoryInfo => CallRow::zeros(Error::InvalidParameter),
+            Function::MemoryInfo => CallRow::zeros(Error::InvalidParameter, 1),
             Function::Share => CallRow::memory(
                 Rule::Any,
                 Kind::Private,
@@ -96,7 +107,7 @@ impl CallRow {
                 Kind::Private,
                 Count::AskedOrOne,
             ),
-            Function::GuardInfo => CallRow::zeros(Error::NotSupported),
+            Function::GuardInfo => CallRow::zeros(Error::NotSupported, 1),
             Function::Enroll => CallRow::any(Condition::Nothing, Action::Enroll),
             Function::GuardMap => CallRow::guard(
                 Rule::Any,
@@ -132,6 +143,37 @@ impl CallRow {
         }
     }
 
+    // The row of a guest that knows no ranges.
+    fn legacy(function: Function) -> CallRow
+        ensures { λ r. ⌜ r ≡ legacyRowOf function ⌝ }
+    {
+        match function {
+            Function::Features => CallRow::any(Condition::Vendor, Action::tell(0x29D, 0)),
+            Function::Uid => CallRow::ranged(Function::Uid),
+            Function::MemoryInfo => CallRow::zeros(Error::InvalidParameter, 0),
+            Function::Share => CallRow::memory(Rule::Zero, Kind::Private, Kind::Shared, Count::One),
+            Function::Unshare => CallRow::memory(
+                Rule::Zero,
+                Kind::Shared,
+                Kind::Private,
+                Count::One,
+            ),
+            Function::GuardMap => CallRow::memory(
+                Rule::Zero,
+                Kind::Vacant,
+                Kind::Guarded,
+                Count::One,
+            ),
+            Function::Relinquish => CallRow::ranged(Function::Relinquish),
+            Function::GuardInfo => CallRow::ranged(Function::Unknown),
+            Function::Enroll => CallRow::ranged(Function::Unknown),
+            Function::GuardUnmap => CallRow::ranged(Function::Unknown),
+            Function::RangeGuardMap => CallRow::ranged(Function::Unknown),
+            Function::RangeGuardUnmap => CallRow::ranged(Function::Unknown),
+            Function::Unknown => CallRow::ranged(Function::Unknown),
+        }
+    }
+
     // A row that looks at no register.
     fn any(condition: Condition, action: Action) -> CallRow
         ensures { λ r. ⌜ r ≡ callRow Any Any Any condition NotSupported action ⌝ }
@@ -146,9 +188,9 @@ impl CallRow {
         }
     }
 
-    // A row that wants R1 to R3 zero, and tells the size of a granule and 1.
-    fn zeros(error: Error) -> CallRow
-        ensures { λ r. ⌜ r ≡ callRow Zero Zero Zero Nothing error (Action.Tell granuleSize 1 0 0) ⌝ }
+    // A row that wants R1 to R3 zero, and tells the size of a granule and whether the calls take ranges.
+    fn zeros(error: Error, ranges: u32) -> CallRow
+        ensures { λ r. ⌜ r ≡ callRow Zero Zero Zero Nothing error (Action.Tell granuleSize ranges 0 0) ⌝ }
     {
         CallRow {
             r1: Rule::Zero,
@@ -156,11 +198,11 @@ impl CallRow {
             r3: Rule::Zero,
             condition: Condition::Nothing,
             error,
-            action: Action::tell(Granule::SIZE as u32, 1),
+            action: Action::tell(Granule::SIZE as u32, ranges),
         }
     }
 
-    // A row of the calls that share, unshare or give up memory.
+    // A row of the calls that share, unshare or give up memory, and of a legacy guest's guard map.
     fn memory(r2: Rule, needs: Kind, makes: Kind, count: Count) -> CallRow
         ensures { λ r. ⌜ r ≡ callRow Base r2 Zero Nothing InvalidParameter (Action.Change (operation needs makes) count) ⌝ }
     {
