@@ -20,12 +20,10 @@ use Rattle.granules.specs.Step.{place, Refusal, tableStep}
 use Rattle.granules.specs.declared.kinds.Operation.{Operation}
 use Rattle.words.specs.Granule.{granuleOf}
 use Rattle.guest_callers.specs.Callers.{callerTests}
-use Rattle.functions.specs.Function.{askedBy}
-use Rattle.call_table.specs.Table.{callRowOf}
 use Rattle.functions.specs.declared.rules.Registers.{Registers}
 use Rattle.functions.specs.declared.rules.Error.{Error}
 use Rattle.call_table.specs.declared.rows.CallRow.{CallRow}
-use Rattle.guest_hypercalls.specs.Calls.{rowTests, doneAnswer, finished, actOf, hypercallCommand}
+use Rattle.guest_hypercalls.specs.Calls.{rowTests, doneAnswer, finished, actOf, rowFor, hypercallCommand}
 
 -- a call of slot v, by the admission that verdicts 1 to 3 gave it
 module _ (v : ℕ) (r : Registers) (x : View) (q : Admission) (t : refusalBy q ≡ firstRefusal (callerTests (x .frames) (x .map) (x .slot) (x .guest))) where
@@ -33,7 +31,7 @@ module _ (v : ℕ) (r : Registers) (x : View) (q : Admission) (t : refusalBy q �
   caller = callerTests (x .frames) (x .map) (x .slot) (x .guest)
 
   abbrev row : CallRow
-  row = callRowOf (askedBy (r .r0))
+  row = rowFor r (x .guest)
 
   pub call-refused : (a : Answer) → q ≡ admission.Refused a → result (x .frames) (x .map) (decision Kept a) ≡ resultOf (hypercallCommand v r) x
   call-refused a p =

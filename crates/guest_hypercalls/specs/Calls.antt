@@ -53,11 +53,16 @@ actOf r e action.Enroll x = changeRecord Enrolled (guestSuccess 0)
 actOf r e (action.Change o n) x =
     finished e (isTold n) (run (tableStep o (x .slot)) (min rangeLimit (granulesOf n (r .r2))) (place (x .map) (x .frames) (granuleOf (r .r1))))
 
+-- the row that registers r ask for, in the table of the caller's kind
+abbrev pub rowFor : Registers → Guest → CallRow
+rowFor r g = callRowOf (g .legacy) (askedBy (r .r0))
+
 -- a hypercall of slot v with registers r
 abbrev pub hypercallCommand : ℕ → Registers → Command
 hypercallCommand v r =
-    let w = callRowOf (askedBy (r .r0)) in
-    command bothTables (givenSlot v) (λ x. neverRunTests (x .guest) ++ rowTests w r (x .guest)) (actOf r (w .error) (w .action))
+    command bothTables (givenSlot v)
+    (λ x. neverRunTests (x .guest) ++ rowTests (rowFor r (x .guest)) r (x .guest))
+    (λ x. actOf r (rowFor r (x .guest) .error) (rowFor r (x .guest) .action) x)
 
 unfoldable pub hypercallOf : ℕ → Registers → State → Answered
 hypercallOf v r s = performed (hypercallCommand v r) s

@@ -51,7 +51,7 @@ pub fn decide_hypercall(
     match caller_admission(frames, map, slot, guest) {
         Admission::Refused(answer) => Decision::keep(answer),
         Admission::Passed => {
-            let row = CallRow::of(Function::asked(registers.r0));
+            let row = CallRow::of(guest.legacy, Function::asked(registers.r0));
             let error = row.error;
             let action = row.action;
             match row_admission(row, registers, guest) {
