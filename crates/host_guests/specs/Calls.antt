@@ -1,4 +1,6 @@
--- Document 01, "Host calls": create, run and show a guest's row; with "Verdicts, in the order they are tested".
+-- Document 01, "Host calls": create, run and show a guest's row; with "Verdicts, in the order they are tested". Document 02, Wish 1: "Create gets a
+-- second kind".
+use mathlib.Core.Bool.{Bool}
 use mathlib.Core.List.{List, [], _∷_}
 use mathlib.Core.Option.{Option, none, some}
 use Prim.Native.Nat.{ℕ}
@@ -20,12 +22,13 @@ use Rattle.rows.specs.WholeRow.{rowVacant}
 abbrev pub createTests : List ℕ → ℕ → Tests Answer
 createTests map v = (rowVacant (rowOf map v), Damaged) ∷ (ltb v 8, NoFreeSlot) ∷ []
 
--- "Create: takes the lowest slot that isn't live"; "create sets every field anew"; "v0 is the slot."
-abbrev pub createCommand : Command
-createCommand = command bothTables lowestFree (λ x. createTests (x .map) (x .slot)) (λ x. changeRecord Created (hostSuccess (x .slot)))
+-- "Create: takes the lowest slot that isn't live"; "create sets every field anew"; "v0 is the slot." Both kinds alike; the record keeps which.
+abbrev pub createCommand : Bool → Command
+createCommand legacy =
+    command bothTables lowestFree (λ x. createTests (x .map) (x .slot)) (λ x. changeRecord (Created legacy) (hostSuccess (x .slot)))
 
-unfoldable pub createOf : State → Answered
-createOf s = performed createCommand s
+unfoldable pub createOf : Bool → State → Answered
+createOf legacy s = performed (createCommand legacy) s
 
 -- "Run: marks the guest as run; again changes nothing." It has slot (2) alone.
 abbrev pub runCommand : ℕ → Command

@@ -1,4 +1,5 @@
 ghost use mathlib.Core.Path.{_≡_};
+ghost use mathlib.Core.Bool.{true, false};
 ghost use mathlib.Core.List.{List, _++_};
 ghost use Prim.Native.Nat.{ℕ};
 ghost use Rattle.commands.specs.State.{state, answered};
@@ -17,21 +18,37 @@ use rows::row_vacant;
 use tables::lengths_hold;
 use tables::row;
 
-// A guest is created in the lowest slot that is not live. It answers for any tables and records.
+// A guest with ranges is created in the lowest slot that is not live. It answers for any tables and records.
 pub fn create(monitor: Monitor, frames: &[u32], map: &[u32]) -> Reply
     ensures { λ r. ⌜ answered (state (now (frames .entry)) (now (map .entry)) (r .monitor)) (r .answer)
-        ≡ createOf (state (now (frames .entry)) (now (map .entry)) monitor) ⌝ }
+        ≡ createOf false (state (now (frames .entry)) (now (map .entry)) monitor) ⌝ }
+{
+    create_kind(monitor, frames, map, false)
+}
+
+// The same for a guest that knows no ranges.
+pub fn create_legacy(monitor: Monitor, frames: &[u32], map: &[u32]) -> Reply
+    ensures { λ r. ⌜ answered (state (now (frames .entry)) (now (map .entry)) (r .monitor)) (r .answer)
+        ≡ createOf true (state (now (frames .entry)) (now (map .entry)) monitor) ⌝ }
+{
+    create_kind(monitor, frames, map, true)
+}
+
+// A guest of either kind is created.
+fn create_kind(monitor: Monitor, frames: &[u32], map: &[u32], legacy: bool) -> Reply
+    ensures { λ r. ⌜ answered (state (now (frames .entry)) (now (map .entry)) (r .monitor)) (r .answer)
+        ≡ createOf legacy (state (now (frames .entry)) (now (map .entry)) monitor) ⌝ }
 {
     let slot = monitor.free_slot();
-    decide_create(frames, map, slot).reply(monitor, slot)
+    decide_create(frames, map, slot, legacy).reply(monitor, slot)
 }
 
 // What create decides of the slot that it would take: the lowest that is not live, or 8. It looks at no record, so the equation holds with any.
-pub fn decide_create(frames: &[u32], map: &[u32], slot: u64) -> Decision
+pub fn decide_create(frames: &[u32], map: &[u32], slot: u64, legacy: bool) -> Decision
     ensures { λ r. ⌜ ((guest : Guest) → result (now (frames .entry)) (now (map .entry)) r
-        ≡ resultOf createCommand (view (now (frames .entry)) (now (map .entry)) slot guest)) ⌝ }
+        ≡ resultOf (createCommand legacy) (view (now (frames .entry)) (now (map .entry)) slot guest)) ⌝ }
 {
-    create_admission(frames, map, slot).decide(Change::Created, Answer::Done(slot))
+    create_admission(frames, map, slot).decide(Change::Created { legacy }, Answer::Done(slot))
 }
 
 // The guest in a slot is run. It answers for any slot number and records.

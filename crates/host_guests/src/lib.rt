@@ -5,6 +5,7 @@ mod creation;
 mod views;
 
 pub use creation::create;
+pub use creation::create_legacy;
 pub use creation::decide_create;
 pub use creation::decide_run;
 pub use creation::run;

@@ -11,8 +11,9 @@ returns : tie.Need-returns
 returns c = λ guest.
     let frames = c .before .before .before .before .args .frames .now in
     let map = c .before .before .before .before .args .map .now in
+    let legacy = c .before .before .before .before .args .legacy in
     rw (c .decide .ensures)
-    (changed-result (view frames map (c .before .before .before .before .args .slot) guest) (testsOf createCommand (view frames map (c .before .before .before .before .args .slot) guest)) (c .before .create-admission .ensures) Created (hostSuccess (c .before .before .before .before .args .slot)))
+    (changed-result (view frames map (c .before .before .before .before .args .slot) guest) (testsOf (createCommand legacy) (view frames map (c .before .before .before .before .args .slot) guest)) (c .before .create-admission .ensures) (Created legacy) (hostSuccess (c .before .before .before .before .args .slot)))
 
 pub decide-create-spec : {M : Type 1} → statement M
 decide-create-spec = tie.close (tie.spec (λ c κs. search needs) (λ c κs. search needs) returns)
