@@ -16,9 +16,9 @@ use Rattle.host_removal.specs.Calls.{removeCommand}
 use Rattle.calls.specs.declared.call.Call.{Call}
 use Rattle.calls.specs.declared.call.Call.the-variants.{Create, Donate, Run, Remove, Cleared, Access, Show, RegisterRead, RegisterWrite, Hypercall, Abort}
 
--- v is a slot, f a frame, g a granule, n a register's number, y the value written, r R0 to R3, a an IPA
+-- k is whether a guest is legacy, v is a slot, f a frame, g a granule, n a register's number, y the value written, r R0 to R3, a an IPA
 abbrev pub commandOf : Call → Command
-commandOf Create = createCommand
+commandOf (Create k) = createCommand k
 commandOf (Donate v f g) = donateCommand v f g
 commandOf (Run v) = runCommand v
 commandOf (Remove v) = removeCommand v
@@ -32,7 +32,7 @@ commandOf (Abort v a) = abortCommand v a
 
 -- the numbers that a call is made with
 abbrev pub arguments : Call → List ℕ
-arguments Create = []
+arguments (Create k) = []
 arguments (Donate v f g) = v ∷ f ∷ g ∷ []
 arguments (Run v) = v ∷ []
 arguments (Remove v) = v ∷ []
@@ -57,7 +57,7 @@ pub data FrameEvent : Type 0 where
   otherEvent : FrameEvent
 
 abbrev pub frameEvent : Call → FrameEvent
-frameEvent Create = otherEvent
+frameEvent (Create k) = otherEvent
 frameEvent (Donate v f g) = donation v f g
 frameEvent (Run v) = otherEvent
 frameEvent (Remove v) = removal v

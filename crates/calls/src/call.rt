@@ -21,7 +21,9 @@ use records::Monitor;
 
 // A call with its arguments, any numbers.
 pub enum Call {
-    Create,
+    Create {
+        legacy: bool,
+    },
     Donate {
         slot: u64,
         frame: u64,
@@ -67,7 +69,7 @@ impl Call {
         ensures { λ r. ⌜ r ≡ slotNumber (commandOf self .slot) monitor ⌝ }
     {
         match self {
-            Call::Create => monitor.free_slot(),
+            Call::Create { legacy: _ } => monitor.free_slot(),
             Call::Donate {
                 slot,
                 frame: _,
@@ -95,7 +97,7 @@ impl Call {
             ≡ resultOf (commandOf self) (view (now (frames .entry)) (now (map .entry)) at guest) ⌝ }
     {
         match self {
-            Call::Create => decide_create(frames, map, at),
+            Call::Create { legacy } => decide_create(frames, map, at, legacy),
             Call::Donate {
                 slot: _,
                 frame,
