@@ -1,4 +1,5 @@
 -- Worked logs: what calls from fresh tables of 256 frames and 64 granules a slot come to, for one frame.
+use mathlib.Core.Bool.{false, true}
 use mathlib.Core.List.{List, [], _∷_, _++_}
 use Prim.Native.Nat.{ℕ, _*_}
 use Rattle.runs.specs.Worked.{Case}
@@ -23,7 +24,11 @@ asks v number g n = Hypercall v (registers number (g * 4096) n 0)
 
 -- a guest in slot 0 with frames 3 and 4 at granules 5 and 7, one in slot 1 with frame 9 at granule 5
 abbrev began : List Call
-began = Create ∷ Donate 0 3 5 ∷ Donate 0 4 7 ∷ Create ∷ Donate 1 9 5 ∷ Run 0 ∷ Run 1 ∷ []
+began = Create false ∷ Donate 0 3 5 ∷ Donate 0 4 7 ∷ Create false ∷ Donate 1 9 5 ∷ Run 0 ∷ Run 1 ∷ []
+
+-- the same, where the guest in slot 0 is legacy
+abbrev beganLegacy : List Call
+beganLegacy = Create true ∷ Donate 0 3 5 ∷ Donate 0 4 7 ∷ Create false ∷ Donate 1 9 5 ∷ Run 0 ∷ Run 1 ∷ []
 
 abbrev pub logs : List (Case (FrameChange × Numbers))
 logs =
@@ -55,4 +60,16 @@ logs =
     ∷ case (began ++ (Cleared 3 ∷ [])) 3 (donated 0 5) 0
     ∷ case (began ++ (Remove 0 ∷ Cleared 3 ∷ [])) 3 cleared 1
     ∷ case (began ++ (Remove 0 ∷ Cleared 3 ∷ Donate 1 3 8 ∷ [])) 3 (donated 1 8) 0
+    -- a legacy guest's share, which tells 0, is open to the host, and its unshare shuts it again
+    ∷ case (beganLegacy ++ (asks 0 0xC6000003 5 0 ∷ [])) 3 (shared 0 5) 1
+    ∷ case (beganLegacy ++ (asks 0 0xC6000003 5 0 ∷ asks 0 0xC6000004 5 0 ∷ [])) 3 (unshared 0 5) 0
+    ∷ case (beganLegacy ++ (asks 0 0xC6000009 5 0 ∷ [])) 3 relinquished 0
+    -- the granule after it is not
+    ∷ case (beganLegacy ++ (Donate 0 8 6 ∷ asks 0 0xC6000003 5 0 ∷ [])) 8 (donated 0 6) 0
+    -- with a count it is refused
+    ∷ case (beganLegacy ++ (asks 0 0xC6000003 5 1 ∷ [])) 3 (donated 0 5) 0
+    -- beside it a guest with ranges
+    ∷ case (beganLegacy ++ (asks 0 0xC6000003 5 0 ∷ [])) 9 (donated 1 5) 0
+    ∷ case (beganLegacy ++ (asks 1 0xC6000003 5 1 ∷ [])) 9 (shared 1 5) 1
+    ∷ case (beganLegacy ++ (asks 1 0xC6000003 5 1 ∷ [])) 3 (donated 0 5) 0
     ∷ []

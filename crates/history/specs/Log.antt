@@ -57,14 +57,19 @@ changedWhere about made relinquished = relinquished
 changedWhere about made ownerRemoved = ownerRemoved
 changedWhere about made cleared = cleared
 
+-- the granules that a share or unshare is about that is done and tells n. Document 02, Wish 1: such calls of guests that know no ranges "do one
+-- granule and return R1 = 0"; a done call of any other guest tells 1 or more.
+abbrev pub toldGranules : ℕ → ℕ
+toldGranules n = cond (eqb n 0) 1 n
+
 -- what a hypercall of slot v that is done makes of a frame: "The function number is the low 32 bits of R0", R1 is the base, and share and
 -- unshare tell in R1 how many granules they changed. Only these calls and relinquish change a frame.
 unfoldable pub afterHypercall : ℕ → Registers → ℕ → FrameChange → FrameChange
 afterHypercall v r n c =
     let number = r .r0 % 2 ^ 32 in
     let g = granuleOf (r .r1) in
-    cond (eqb number 0xC6000003) (changedWhere (among v g n) shared c)
-    (cond (eqb number 0xC6000004) (changedWhere (among v g n) unshared c)
+    cond (eqb number 0xC6000003) (changedWhere (among v g (toldGranules n)) shared c)
+    (cond (eqb number 0xC6000004) (changedWhere (among v g (toldGranules n)) unshared c)
     (cond (eqb number 0xC6000009) (changedWhere (among v g 1) (λ u h. relinquished) c)
     c))
 

@@ -1,7 +1,7 @@
 -- The exact invariant: what holds of tables and records in every history. Document 01, "Tables": "Histories start from fresh tables, and
 -- only these calls write them."
 use mathlib.Core.Path.{_≡_}
-use mathlib.Core.Bool.{Bool, true, false}
+use mathlib.Core.Bool.{Bool, true, false, _&&_, _||_}
 use Prim.Native.Nat.{ℕ, _<_}
 use lib.ListN.{length}
 use Rattle.tables.specs.Length.{widthOf, lengthsHold}
@@ -16,24 +16,25 @@ use Rattle.host_registers.specs.Registers.{withinLimit}
 use Rattle.records.specs.declared.change.FirmwareRegister.the-variants.{VendorHyp}
 
 -- a live guest's record as create sets it, but for two flags and VENDOR_HYP
-abbrev pub guestAs : Bool → Bool → ℕ → Guest
-guestAs run enrolled x = withFlags true run enrolled (withBitmap VendorHyp x newGuest)
+abbrev pub guestAs : Bool → Bool → Bool → ℕ → Guest
+guestAs legacy run enrolled x = withFlags true legacy run enrolled (withBitmap VendorHyp x (newGuest legacy))
 
 -- "A dead slot's record is all zero in any history"; nothing else of a live one differs from what create sets; VENDOR_HYP is within its
--- limit; only a guest that has run can have enrolled
+-- limit; only a guest that has run can have enrolled, but one that knows no ranges "counts as enrolled from creation"
 pub record SoundRecord (g : Guest) : Type 0 where
   pub dead : g .live ≡ false → g ≡ zeroGuest
-  pub live : g .live ≡ true → g ≡ guestAs (g .run) (g .enrolled) (g .«vendor_hyp»)
+  pub live : g .live ≡ true → g ≡ guestAs (g .legacy) (g .run) (g .enrolled) (g .«vendor_hyp»)
   pub limit : withinLimit VendorHyp (g .«vendor_hyp») ≡ true
-  pub enrolled : g .enrolled ≡ true → g .run ≡ true
+  pub enrolled : g .enrolled ≡ true → g .run || g .legacy ≡ true
+  pub legacy : g .legacy ≡ true → g .enrolled ≡ true
 
 -- what a granule of a guest with this record can hold: a private frame if it is live, a shared one if it has run, guarded MMIO if it has
--- enrolled. So a dead slot's row is vacant.
+-- enrolled and run. So a dead slot's row is vacant.
 abbrev pub mayHold : Guest → GranuleState → Bool
 mayHold g Vacant = true
 mayHold g (Frame false f) = g .live
 mayHold g (Frame true f) = g .run
-mayHold g Guarded = g .enrolled
+mayHold g Guarded = g .enrolled && g .run
 mayHold g Damaged = false
 
 -- Both pair tests find no damage anywhere, so each word that names a partner is named back.
