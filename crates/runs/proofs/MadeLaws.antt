@@ -1,5 +1,5 @@
 -- What holds of the first state, and is kept by every call that does not refuse, holds wherever a call is made. So what every such call makes
--- greater rises from call to call. And no call is made elsewhere: the pieces hang on what calls do in these states alone.
+-- greater, in the states with some P that is kept, rises from call to call. And no call is made elsewhere: the pieces hang on what calls do in these states alone.
 use mathlib.Core.Path.{_≡_, refl, ap}
 use mathlib.Core.List.{List, [], _∷_, _++_}
 use Prim.Native.Nat.{ℕ, zero, suc, _-_, _≤_, _<_}
@@ -66,13 +66,21 @@ module _ {S R : Type 0} (P : S → Type 0) where
         on ih (ended k t (refused r)) h = tt
         on ih (ended k t outOfFuel) h = tt
 
-module _ {S R : Type 0} (f : S → ℕ) (call : ℕ → S → End S R)
-    (rises : (m : ℕ) (s : S) (k : ℕ) (t : S) → 1 ≤ m → call m s ≡ ended k t complete → f s < f t) where
+every-first : {S : Type 0} (P Q : S → Type 0) (xs : List S) → Every (λ s. P s × Q s) xs → Every P xs
+every-first P Q [] h = tt
+every-first P Q (x ∷ xs) h = (h .0 .0, every-first P Q xs (h .1))
+
+module _ {S R : Type 0} (P : S → Type 0) (f : S → ℕ) (call : ℕ → S → End S R)
+    (keeps : (m : ℕ) (s : S) (k : ℕ) (t : S) → 1 ≤ m → P s → call m s ≡ ended k t complete → P t)
+    (rises : (m : ℕ) (s : S) (k : ℕ) (t : S) → 1 ≤ m → P s → call m s ≡ ended k t complete → f s < f t) where
+  abbrev Higher : ℕ → S → Type 0
+  Higher n s = n < f s
+
   abbrev Above : ℕ → S → Type 0
-  Above n s = n < f s
+  Above n s = Higher n s × P s
 
   stays-above : (n m : ℕ) (s : S) (k : ℕ) (t : S) → 1 ≤ m → Above n s → call m s ≡ ended k t complete → Above n t
-  stays-above n m s k t h p e = omega (arith, rises m s k t h e)
+  stays-above n m s k t h p e = (omega (arith, rises m s k t h (p .1) e, p .0), keeps m s k t h (p .1) e)
 
   next-after : (next : S → List S) (k : ℕ) (e : End S R) → nextPiece next (after k e) ≡ nextPiece next e
   next-after next k (ended d s complete) = refl
@@ -80,37 +88,38 @@ module _ {S R : Type 0} (f : S → ℕ) (call : ℕ → S → End S R)
   next-after next k (ended d s outOfFuel) = refl
 
   -- the calls for a piece, then those for the pieces after it, which are made above where it ended
-  module _ (next : S → List S) (above : (n : ℕ) (t : S) → Above n t → Every (Above n) (next t)) (rising : (t : S) → Rising f (next t)) where
+  module _ (next : S → List S) (above : (n : ℕ) (t : S) → Above n t → Every (Above n) (next t)) (rising : (t : S) → P t → Rising f (next t)) where
     next-above : (n : ℕ) (e : End S R) → Leaves (Above n) e → Every (Above n) (nextPiece next e)
     next-above n (ended k t complete) h = above n t h
     next-above n (ended k t (refused r)) h = tt
     next-above n (ended k t outOfFuel) h = tt
 
-    carried-rising : (g m : ℕ) (s : S) → Rising f (callsCarried call g m s ++ nextPiece next (carryOn call g m s))
-    carried-rising zero zero s = rising s
-    carried-rising zero (suc m) s = tt
-    carried-rising (suc g) zero s = rising s
-    carried-rising (suc g) (suc m) s = on (λ k t. carried-rising g k t) (call (suc m) s) refl
+    carried-rising : (g m : ℕ) (s : S) → P s → Rising f (callsCarried call g m s ++ nextPiece next (carryOn call g m s))
+    carried-rising zero zero s i = rising s i
+    carried-rising zero (suc m) s i = tt
+    carried-rising (suc g) zero s i = rising s i
+    carried-rising (suc g) (suc m) s i = on (λ k t j. carried-rising g k t j) (call (suc m) s) refl
       where
-        on : ((k : ℕ) (t : S) → Rising f (callsCarried call g k t ++ nextPiece next (carryOn call g k t))) → (e : End S R) → call (suc m) s ≡ e
+        on : ((k : ℕ) (t : S) → P t → Rising f (callsCarried call g k t ++ nextPiece next (carryOn call g k t))) → (e : End S R) → call (suc m) s ≡ e
             → Rising f (s ∷ (further (λ k t. callsCarried call g k t) (suc m) e ++ nextPiece next (goOn (λ k t. carryOn call g k t) (suc m) e)))
         on ih (ended k t complete) e =
             let n = f s in
             let left = suc m - k in
-            let p : Above n t = rises (suc m) s k t (omega arith) e in
+            let p : Above n t = (rises (suc m) s k t (omega arith) i e, keeps (suc m) s k t (omega arith) i e) in
             let last = carryOn call g left t in
             rw (next-after next k last) (
-              every-append (Above n) (callsCarried call g left t) (nextPiece next last) (carried-every (Above n) call (stays-above n) g left t p)
-                  (next-above n last (carried-leaves (Above n) call (stays-above n) g left t p)),
-              ih left t,
+              every-first (Higher n) P (callsCarried call g left t ++ nextPiece next last)
+                  (every-append (Above n) (callsCarried call g left t) (nextPiece next last) (carried-every (Above n) call (stays-above n) g left t p)
+                  (next-above n last (carried-leaves (Above n) call (stays-above n) g left t p))),
+              ih left t (p .1),
             )
         on ih (ended k t (refused r)) e = (tt, tt)
         on ih (ended k t outOfFuel) e = (tt, tt)
 
-  pub made-rising : (ms : List ℕ) (s : S) → Rising f (callsMade call ms s)
-  made-rising [] s = tt
-  made-rising (m ∷ ms) s =
-      carried-rising (λ t. callsMade call ms t) (λ n t h. made-every (Above n) call (stays-above n) ms t h) (λ t. made-rising ms t) m m s
+  pub made-rising : (ms : List ℕ) (s : S) → P s → Rising f (callsMade call ms s)
+  made-rising [] s i = tt
+  made-rising (m ∷ ms) s i =
+      carried-rising (λ t. callsMade call ms t) (λ n t h. made-every (Above n) call (stays-above n) ms t h) (λ t j. made-rising ms t j) m m s i
 
 module _ {S R : Type 0} (call other : ℕ → S → End S R) where
   -- the two calls do the same in a state
