@@ -20,14 +20,14 @@ use Rattle.commands.specs.State.{State}
 use Rattle.commands.specs.Tests.{Tests, firstRefusal}
 use Rattle.answers.specs.declared.answer.Numbers.{Numbers}
 use Rattle.commands.proofs.TestLaws.{all-pass}
-use Rattle.claims.specs.SingleSteps.{RangeCall, share, unshare, rangeGuardMap, rangeGuardUnmap, registersRight, callTests, granuleTests, frameIn, wordMade, withSharedByte, framesMade, changedAt, At, at, singleStep}
+use Rattle.claims.specs.SingleSteps.{RangeCall, share, unshare, rangeGuardMap, rangeGuardUnmap, errorOf, registersRight, callTests, granuleTests, frameIn, wordMade, withSharedByte, framesMade, changedAt, At, at, singleStep}
 use Rattle.claims.proofs.StepAgrees.{granuleRefusal, granuleStep}
 
 -- the refusal before any granule
 abbrev pub callRefusal : RangeCall → ℕ → ℕ → At → Option Numbers
 callRefusal c v r3 (at b s) = firstRefusal (callTests c v r3 b s)
 
-gated-append : (xs ys : Tests Numbers) (o : Step At Numbers) → gated (firstRefusal (xs ++ ys)) o ≡ gated (firstRefusal xs) (gated (firstRefusal ys) o)
+pub gated-append : (xs ys : Tests Numbers) (o : Step At Numbers) → gated (firstRefusal (xs ++ ys)) o ≡ gated (firstRefusal xs) (gated (firstRefusal ys) o)
 gated-append [] ys o = refl
 gated-append (x ∷ xs) ys o = on (gated-append xs ys o) (x .0)
   where
@@ -37,11 +37,11 @@ gated-append (x ∷ xs) ys o = on (gated-append xs ys o) (x .0)
     on e false = refl
 
 -- the single step is the granule's step behind the tests before any granule
-pub step-gated : (c : RangeCall) (v r3 : ℕ) (p : At) → singleStep c v r3 p ≡ gate (callRefusal c v r3) (granuleStep c v) p
+pub step-gated : (c : RangeCall) (v r3 : ℕ) (p : At) → singleStep c v r3 p ≡ gate (callRefusal c v r3) (granuleStep (errorOf c) c v) p
 unfolding singleStep
-step-gated c v r3 (at b s) = gated-append (callTests c v r3 b s) (granuleTests c (ltb (granuleOf b) (widthOf (length (s .map)))) (pairAt (s .frames) (s .map) v (granuleOf b))) (took (at (b + granuleSize) (changedAt c v b s)))
+step-gated c v r3 (at b s) = gated-append (callTests c v r3 b s) (granuleTests (errorOf c) c (ltb (granuleOf b) (widthOf (length (s .map)))) (pairAt (s .frames) (s .map) v (granuleOf b))) (took (at (b + granuleSize) (changedAt c v b s)))
 
-pub steps-gated : (c : RangeCall) (v r3 n : ℕ) (p : At) → run (singleStep c v r3) n p ≡ run (gate (callRefusal c v r3) (granuleStep c v)) n p
+pub steps-gated : (c : RangeCall) (v r3 n : ℕ) (p : At) → run (singleStep c v r3) n p ≡ run (gate (callRefusal c v r3) (granuleStep (errorOf c) c v)) n p
 steps-gated c v r3 n p = ap (λ (f : At → Step At Numbers). run f n p) (fun-ext (step-gated c v r3))
 
 -- what passed tests say
@@ -86,9 +86,9 @@ pub gated-passed : (q : Option Numbers) (o : Step At Numbers) (t : At) → gated
 gated-passed none o t e = (refl, e)
 gated-passed (some r) o t e = (cc, cc)
 
-pub stays : (c : RangeCall) (v r3 : ℕ) (p t : At) → callRefusal c v r3 p ≡ none → granuleStep c v p ≡ took t → callRefusal c v r3 t ≡ none
+pub stays : (c : RangeCall) (v r3 : ℕ) (p t : At) → callRefusal c v r3 p ≡ none → granuleStep (errorOf c) c v p ≡ took t → callRefusal c v r3 t ≡ none
 stays c v r3 (at b s) t h e =
     let x = at (b + granuleSize) (changedAt c v b s) in
-    let to = gated-passed (granuleRefusal c v (at b s)) (took x) t e .1 in
+    let to = gated-passed (granuleRefusal (errorOf c) c v (at b s)) (took x) t e .1 in
     let same : x ≡ t = cc in
     rw (← same) (same-tests c v r3 b s ∙ h)

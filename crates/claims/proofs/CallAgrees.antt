@@ -30,7 +30,7 @@ use Rattle.granules.specs.Step.{Place, place, Refusal, isDamaged, notDone, tabl
 use Rattle.ranges.specs.Range.{rangeLimit}
 use Rattle.functions.specs.Function.{functionOf, askedBy}
 use Rattle.functions.specs.Rules.{registers, errorAnswer}
-use Rattle.call_table.specs.Table.{granulesOf, isTold, callRowOf}
+use Rattle.call_table.specs.Table.{granulesOf, isTold, rangedRowOf}
 use Rattle.functions.specs.declared.numbers.Function.{Function}
 use Rattle.functions.specs.declared.numbers.Function.the-variants.{Share, Unshare, RangeGuardMap, RangeGuardUnmap}
 use Rattle.call_table.specs.declared.rows.Action.the-variants as action
@@ -39,12 +39,13 @@ use Rattle.call_table.specs.declared.rows.Count.the-variants.{Asked, AskedOrOne
 use Rattle.functions.specs.declared.rules.Error.{Error}
 use Rattle.functions.specs.declared.rules.Error.the-variants.{NotSupported, InvalidParameter}
 use Rattle.guest_callers.specs.Callers.{callerTests}
-use Rattle.guest_hypercalls.specs.Calls.{rowTests, finished, actOf, hypercallOf}
-use Rattle.claims.specs.SingleSteps.{RangeCall, share, unshare, rangeGuardMap, rangeGuardUnmap, numberOf, errorOf, registersRight, enrolmentRight, At, at, singleStep}
-use Rattle.claims.specs.Pieces.{readCall, callAt}
+use Rattle.guest_hypercalls.specs.Calls.{rowTests, finished, actOf}
+use Rattle.claims.specs.SingleSteps.{RangeCall, share, unshare, rangeGuardMap, rangeGuardUnmap, numberOf, errorOf, registersRight, enrolmentRight, stepTests, changedAt, At, at, singleStep}
+use Rattle.claims.specs.Pieces.{readCall, callAt, liveLegacy}
 use Rattle.claims.proofs.Took.{step-took}
 use Rattle.claims.proofs.StepAgrees.{operationOf, granuleStep, located, numbersBy, agrees}
-use Rattle.claims.proofs.BeforeGranules.{callRefusal, steps-gated, call-passed, stays}
+use Rattle.claims.proofs.KindRows.{byRow, ranged-row, unless, tests-read}
+use Rattle.claims.proofs.BeforeGranules.{callRefusal, steps-gated, call-passed, gated-passed, stays}
 
 abbrev pub functionBy : RangeCall → Function
 functionBy share = Share
@@ -65,11 +66,6 @@ errorBy unshare = InvalidParameter
 errorBy rangeGuardMap = NotSupported
 errorBy rangeGuardUnmap = NotSupported
 
--- how a call's answer reads where a test refused it, and where none did
-abbrev unless : Option Numbers → At → End At Numbers → End At Numbers
-unless none p e = e
-unless (some n) p e = ended 0 p (refused n)
-
 error-read : (c : RangeCall) (b : ℕ) (s : State) → readCall b (answered s (errorAnswer (errorBy c))) ≡ ended 0 (at b s) (refused (errorOf c))
 unfolding numbersOf
 error-read share b s = refl
@@ -77,30 +73,18 @@ error-read unshare b s = refl
 error-read rangeGuardMap b s = refl
 error-read rangeGuardUnmap b s = refl
 
-tests-read : (c : RangeCall) (x₁ x₂ x₃ x₄ x₅ : Bool) (b v : ℕ) (s : State) (d : Effect)
-    → readCall b
-    (effected v s (unlessRefused (firstRefusal ((x₁, BadLength) ∷ (x₂, NoGuest) ∷ (x₃, NeverRun) ∷ (x₄, errorAnswer (errorBy c)) ∷ (x₅, errorAnswer (errorBy c)) ∷ [])) d))
-    ≡ unless (firstRefusal ((x₁, verdictWith 1 0) ∷ (x₂, verdictWith 2 0) ∷ (x₃, verdictWith 3 0) ∷ (x₄, errorOf c) ∷ (x₅, errorOf c) ∷ [])) (at b s) (readCall b (effected v s d))
-unfolding numbersOf
-tests-read c false x₂ x₃ x₄ x₅ b v s d = refl
-tests-read c true false x₃ x₄ x₅ b v s d = refl
-tests-read c true true false x₄ x₅ b v s d = refl
-tests-read c true true true false x₅ b v s d = error-read c b s
-tests-read c true true true true false b v s d = error-read c b s
-tests-read c true true true true true b v s d = refl
-
 -- the row of the table, the action and the error of a range call with a count of at least 1
 row-tests : (c : RangeCall) (r0 b m r3 : ℕ) (g : Guest) → 1 ≤ m
-    → rowTests (callRowOf (functionBy c)) (registers r0 b m r3) g
+    → rowTests (rangedRowOf (functionBy c)) (registers r0 b m r3) g
     ≡ (registersRight c b r3, errorAnswer (errorBy c)) ∷ (enrolmentRight c g, errorAnswer (errorBy c)) ∷ []
-unfolding callRowOf
+unfolding rangedRowOf
 row-tests share r0 b m r3 g h = refl
 row-tests unshare r0 b m r3 g h = refl
 row-tests rangeGuardMap r0 b m r3 g h = rw (lt-ltb 0 m h, and-true (isBase b))
 row-tests rangeGuardUnmap r0 b m r3 g h = rw (lt-ltb 0 m h, and-true (isBase b))
 
-row-error : (c : RangeCall) → callRowOf (functionBy c) .error ≡ errorBy c
-unfolding callRowOf
+row-error : (c : RangeCall) → rangedRowOf (functionBy c) .error ≡ errorBy c
+unfolding rangedRowOf
 row-error share = refl
 row-error unshare = refl
 row-error rangeGuardMap = refl
@@ -112,8 +96,8 @@ countBy unshare = AskedOrOne
 countBy rangeGuardMap = Asked
 countBy rangeGuardUnmap = Asked
 
-row-action : (c : RangeCall) → callRowOf (functionBy c) .action ≡ action.Change (operationOf c) (countBy c)
-unfolding callRowOf
+row-action : (c : RangeCall) → rangedRowOf (functionBy c) .action ≡ action.Change (operationOf c) (countBy c)
+unfolding rangedRowOf
 row-action share = refl
 row-action unshare = refl
 row-action rangeGuardMap = refl
@@ -125,24 +109,42 @@ count-counts unshare m h = (rw (ne-eqb m 0 (omega arith)), refl)
 count-counts rangeGuardMap m h = (refl, refl)
 count-counts rangeGuardUnmap m h = (refl, refl)
 
+-- no live guest in slot v knows no ranges; single steps change no record, so it stays so
+abbrev pub NotLegacy : ℕ → At → Type 0
+NotLegacy v (at b s) = liveLegacy v s ≡ false
+
+pub not-legacy-kept : (c : RangeCall) (v r3 : ℕ) (p q : At) → NotLegacy v p → singleStep c v r3 p ≡ took q → NotLegacy v q
+unfolding singleStep
+not-legacy-kept c v r3 (at b s) q h e =
+    let to = gated-passed (firstRefusal (stepTests c v r3 b s)) (took (at (b + granuleSize) (changedAt c v b s))) q e .1 in
+    let same : at (b + granuleSize) (changedAt c v b s) ≡ q = cc in
+    rw (← same) h
+
 module _ (c : RangeCall) (r0 : ℕ → ℕ) (number : (b : ℕ) → r0 b % 2 ^ 32 ≡ numberOf c) (v r3 : ℕ) where
   -- the granules that a call works on
   abbrev worked : ℕ → At → End Place Refusal
   worked m (at b s) = run (tableStep (operationOf c) v) (min rangeLimit m) (place (s .map) (s .frames) (granuleOf b))
 
-  call-reads : (m b : ℕ) (s : State) → 1 ≤ m
-      → callAt r0 v r3 m (at b s) ≡ unless (callRefusal c v r3 (at b s)) (at b s) (readCall b (effected v s (finished (errorBy c) true (worked m (at b s)))))
-  unfolding hypercallOf actOf
-  call-reads m b s h =
+  -- a range call that is refused before any granule
+  abbrev refusal : ℕ → State → Numbers → End At Numbers
+  refusal b s n = ended 0 (at b s) (refused n)
+
+  call-reads : (m b : ℕ) (s : State) → 1 ≤ m → liveLegacy v s ≡ false
+      → callAt r0 v r3 m (at b s)
+      ≡ unless (callRefusal c v r3 (at b s)) (refusal b s) (readCall b (effected v s (finished (errorBy c) true (worked m (at b s)))))
+  unfolding actOf numbersOf
+  call-reads m b s h k =
       let guest = guestOf (s .monitor) v in
       let first = callerTests (s .frames) (s .map) v guest in
       let r = registers (r0 b) b m r3 in
       let asks : askedBy (r0 b) ≡ functionBy c = ap functionOf (number b) ∙ number-asked c in
       let done = finished (errorBy c) true (worked m (at b s)) in
-      ap (λ (f : Function). readCall b (effected v s (unlessRefused (firstRefusal (first ++ rowTests (callRowOf f) r guest)) (actOf r (callRowOf f .error) (callRowOf f .action) (viewOf v s))))) asks
-      ∙ ap (λ (ts : Tests Answer). readCall b (effected v s (unlessRefused (firstRefusal (first ++ ts)) (actOf r (callRowOf (functionBy c) .error) (callRowOf (functionBy c) .action) (viewOf v s))))) (row-tests c (r0 b) b m r3 guest h)
+      ap (readCall b) (ranged-row v r s k)
+      ∙ ap (λ (f : Function). readCall b (byRow v r (rangedRowOf f) s)) asks
+      ∙ ap (λ (ts : Tests Answer). readCall b (effected v s (unlessRefused (firstRefusal (first ++ ts)) (actOf r (rangedRowOf (functionBy c) .error) (rangedRowOf (functionBy c) .action) (viewOf v s))))) (row-tests c (r0 b) b m r3 guest h)
       ∙ rw (row-error c, row-action c, count-counts c m h .0, count-counts c m h .1)
-      (tests-read c (lengthsHold (length (s .frames)) (length (s .map))) (liveIn v guest) (guest .run) (registersRight c b r3) (enrolmentRight c guest) b v s done)
+      (tests-read (readCall b) (refusal b s) v s (errorAnswer (errorBy c)) (errorOf c) refl refl refl (error-read c b s)
+      (lengthsHold (length (s .frames)) (length (s .map))) (liveIn v guest) (guest .run) (registersRight c b r3) (enrolmentRight c guest) done)
 
   -- a range works upward: after k granules it stands k further
   Upward : ℕ → ℕ → Place → Type 0
@@ -162,7 +164,7 @@ module _ (c : RangeCall) (r0 : ℕ → ℕ) (number : (b : ℕ) → r0 b % 2 ^ 3
     answers e = readCall b (effected v (state frames map m) (finished (errorBy c) true e))
 
     abbrev tells : End Place Refusal → End At Numbers
-    tells e = told (mapEnd (located m) (numbersBy c) e)
+    tells e = told (mapEnd (located m) (numbersBy (errorOf c)) e)
 
     done-read : (e : End Place Refusal) → Holds (Upward g) 0 (oneMore e) → answers (oneMore e) ≡ tells (oneMore e)
     unfolding Upward numbersOf
@@ -186,8 +188,8 @@ module _ (c : RangeCall) (r0 : ℕ → ℕ) (number : (b : ℕ) → r0 b % 2 ^ 3
         on (refuses r) h = none-read r
 
   -- "each stops after 64 granules, at the count, or before the first granule that can't be done": a call is at most 64 of the single steps
-  pub call-agrees : (m : ℕ) (p : At) → 1 ≤ m → callAt r0 v r3 m p ≡ rangeCall (singleStep c v r3) rangeLimit m p
-  call-agrees m (at b s) h = call-reads m b s h ∙ on (callRefusal c v r3 (at b s)) refl
+  pub call-agrees : (m : ℕ) (p : At) → 1 ≤ m → NotLegacy v p → callAt r0 v r3 m p ≡ rangeCall (singleStep c v r3) rangeLimit m p
+  call-agrees m (at b s) h k = call-reads m b s h k ∙ on (callRefusal c v r3 (at b s)) refl
     where
       n : ℕ
       n = min rangeLimit m - 1
@@ -196,7 +198,7 @@ module _ (c : RangeCall) (r0 : ℕ → ℕ) (number : (b : ℕ) → r0 b % 2 ^ 3
       some-steps = omega arith
 
       on : (q : Option Numbers) → callRefusal c v r3 (at b s) ≡ q
-          → unless q (at b s) (readCall b (effected v s (finished (errorBy c) true (worked m (at b s))))) ≡ told (run (singleStep c v r3) (min rangeLimit m) (at b s))
+          → unless q (refusal b s) (readCall b (effected v s (finished (errorBy c) true (worked m (at b s))))) ≡ told (run (singleStep c v r3) (min rangeLimit m) (at b s))
       on none e =
           let g = granuleOf b in
           let passes = call-passed c v r3 b s e in
@@ -206,8 +208,8 @@ module _ (c : RangeCall) (r0 : ℕ → ℕ) (number : (b : ℕ) → r0 b % 2 ^ 3
           rw some-steps
           (run-read b (s .monitor) (s .map) (s .frames) g base n
           ∙ ap told
-          (sym (agrees c v (passes .slot) (s .monitor) (suc n) p)
-          ∙ ap (run (granuleStep c v) (suc n)) start
-          ∙ sym (passed (callRefusal c v r3) (granuleStep c v) (stays c v r3) (suc n) (at b s) e)
+          (sym (agrees (errorOf c) c v (passes .slot) (s .monitor) (suc n) p)
+          ∙ ap (run (granuleStep (errorOf c) c v) (suc n)) start
+          ∙ sym (passed (callRefusal c v r3) (granuleStep (errorOf c) c v) (stays c v r3) (suc n) (at b s) e)
           ∙ sym (steps-gated c v r3 (suc n) (at b s))))
       on (some r) e = rw (some-steps, steps-gated c v r3 (suc n) (at b s), e)

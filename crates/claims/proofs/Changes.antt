@@ -26,7 +26,7 @@ use Rattle.pairs.proofs.Found.{mapWordBy, granule-says}
 use Rattle.commands.specs.State.{State}
 use Rattle.answers.specs.declared.answer.Numbers.{Numbers}
 use Rattle.commands.proofs.TestLaws.{all-pass}
-use Rattle.claims.specs.SingleSteps.{RangeCall, share, unshare, rangeGuardMap, rangeGuardUnmap, kindRight, granuleTests, frameIn, wordMade, changedAt, At, at, singleStep}
+use Rattle.claims.specs.SingleSteps.{RangeCall, share, unshare, rangeGuardMap, rangeGuardUnmap, errorOf, kindRight, granuleTests, frameIn, wordMade, changedAt, At, at, singleStep}
 use Rattle.claims.proofs.Differing.{differing-none, differing-set}
 use Rattle.claims.specs.Pieces.{differing, CountsChanges}
 use Rattle.claims.proofs.StepAgrees.{granuleRefusal, granuleStep, pair-inside}
@@ -66,30 +66,37 @@ state-word frames v g w k e n =
     let says : mapWordOf w ≡ mapWordBy k = granule-says frames v g (mapWordOf w) k e n in
     ap mapBits (sym says) ∙ map-encode-decode w (λ d. n (damaged-word k (sym says ∙ d)))
 
--- what a single step that is taken has passed, and where it goes
-pub record SingleTook (c : RangeCall) (v b : ℕ) (s : State) (t : At) : Type 0 where
-  pub passed : Passed v b s
+-- what the step of a granule that is taken has passed, and where it goes
+pub record GranuleTook (c : RangeCall) (v b : ℕ) (s : State) (t : At) : Type 0 where
   pub below : granuleOf b < widthOf (length (s .map))
   pub word : wordAt (s .map) v (granuleOf b) ≢ wordMade c (frameIn (pairAt (s .frames) (s .map) v (granuleOf b)))
   pub to : at (b + granuleSize) (changedAt c v b s) ≡ t
 
-pub single-took : (c : RangeCall) (v r3 b : ℕ) (s : State) (t : At) → singleStep c v r3 (at b s) ≡ took t → SingleTook c v b s t
-single-took c v r3 b s t e =
+pub granule-took : (n : Numbers) (c : RangeCall) (v b : ℕ) (s : State) (t : At) → v < 8 → granuleStep n c v (at b s) ≡ took t → GranuleTook c v b s t
+granule-took n c v b s t slot e =
     let g = granuleOf b in
     let k = pairAt (s .frames) (s .map) v g in
-    let h = gated-passed (callRefusal c v r3 (at b s)) (granuleStep c v (at b s)) t (sym (step-gated c v r3 (at b s)) ∙ e) in
-    let u = gated-passed (granuleRefusal c v (at b s)) (took (at (b + granuleSize) (changedAt c v b s))) t (h .1) in
+    let u = gated-passed (granuleRefusal n c v (at b s)) (took (at (b + granuleSize) (changedAt c v b s))) t e in
     let to = u .1 in
-    let p = all-pass (granuleTests c (ltb g (widthOf (length (s .map)))) k) (u .0) in
-    let passes = call-passed c v r3 b s (h .0) in
+    let p = all-pass (granuleTests n c (ltb g (widthOf (length (s .map)))) k) (u .0) in
     record {
-      passed = passes;
       below = ltb-true g (widthOf (length (s .map))) (p .0);
       word =
           other-word c k (p .1 .1 .0) (wordAt (s .map) v g)
-          (state-word (s .frames) v g (wordAt (s .map) v g) k (pair-inside (s .frames) (s .map) v g (passes .slot) (p .0)) (undamaged-kind c k (p .1 .1 .0)));
+          (state-word (s .frames) v g (wordAt (s .map) v g) k (pair-inside (s .frames) (s .map) v g slot (p .0)) (undamaged-kind c k (p .1 .1 .0)));
       to = cc;
     }
+
+-- and of a single step
+pub record SingleTook (c : RangeCall) (v b : ℕ) (s : State) (t : At) : Type 0 where
+  pub passed : Passed v b s
+  pub granule : GranuleTook c v b s t
+
+pub single-took : (c : RangeCall) (v r3 b : ℕ) (s : State) (t : At) → singleStep c v r3 (at b s) ≡ took t → SingleTook c v b s t
+single-took c v r3 b s t e =
+    let h = gated-passed (callRefusal c v r3 (at b s)) (granuleStep (errorOf c) c v (at b s)) t (sym (step-gated c v r3 (at b s)) ∙ e) in
+    let passes = call-passed c v r3 b s (h .0) in
+    record { passed = passes; granule = granule-took (errorOf c) c v b s t (passes .slot) (h .1) }
 
 -- after k steps of slot v from the state s, before the address b: the words from there on are those of s, and k words differ
 record StepsCounted (v : ℕ) (s : State) (k b : ℕ) (t : State) : Type 0 where
@@ -112,11 +119,11 @@ module _ (c : RangeCall) (v r3 : ℕ) (s : State) where
       let index : x ≡ wordIndex (length (s .map)) v g = rw width in
       let inside = row-inside (length (t .map)) v (u .passed .slot) in
       let same : getD (t .map) x 0 ≡ getD (s .map) x 0 = i .ahead x (omega (arith, index)) in
-      rw (← (u .to))
+      rw (← (u .granule .to))
       (record {
         lengths = length-set (t .map) x y ∙ i .lengths;
         ahead = λ j h. getD-set-other (t .map) x j y 0 (omega (arith, index)) ∙ i .ahead j (omega arith);
-        count = ap suc (i .count) ∙ sym (differing-set (s .map) (t .map) x y (i .lengths) (omega (arith, inside, u .below)) same (λ z. u .word (same ∙ z)));
+        count = ap suc (i .count) ∙ sym (differing-set (s .map) (t .map) x y (i .lengths) (omega (arith, inside, u .granule .below)) same (λ z. u .granule .word (same ∙ z)));
       })
 
   counts : (e : End At Numbers) → Holds (StepsCountedAt v s) 0 e → CountsChanges s e
@@ -129,3 +136,15 @@ module _ (c : RangeCall) (v r3 : ℕ) (s : State) where
   single-steps-count n b =
       counts (run (singleStep c v r3) n (at b s))
       (kept (StepsCountedAt v s) (singleStep c v r3) next n 0 (at b s) (record { lengths = refl; ahead = λ i h. refl; count = sym (differing-none (s .map)) }))
+
+-- one granule's step changes one map word
+pub one-differs : (n : Numbers) (c : RangeCall) (v b : ℕ) (s t : State) → v < 8 → granuleStep n c v (at b s) ≡ took (at (b + granuleSize) t)
+    → differing (s .map) (t .map) ≡ 1
+one-differs n c v b s t slot e =
+    let u = granule-took n c v b s (at (b + granuleSize) t) slot e in
+    let to = u .to in
+    let same : changedAt c v b s ≡ t = cc in
+    let x = wordIndex (length (s .map)) v (granuleOf b) in
+    let y = wordMade c (frameIn (pairAt (s .frames) (s .map) v (granuleOf b))) in
+    rw (← same)
+    (differing-set (s .map) (s .map) x y refl (omega (arith, row-inside (length (s .map)) v slot, u .below)) refl (u .word) ∙ ap suc (differing-none (s .map)))

@@ -56,23 +56,23 @@ unfolding rowVacant boundsOf
 no-row map v e = rw e
 
 -- what verdict 7 says of the three tests of create
-seven-by : (a b c : Bool) (v : ℕ) (s : State) → numbersOf (effected v s (unlessRefused (firstRefusal ((a, BadLength) ∷ (b, Damaged) ∷ (c, NoFreeSlot) ∷ [])) (changeRecord Created (hostSuccess v))) .answer) .verdict ≡ 7
+seven-by : (k a b c : Bool) (v : ℕ) (s : State) → numbersOf (effected v s (unlessRefused (firstRefusal ((a, BadLength) ∷ (b, Damaged) ∷ (c, NoFreeSlot) ∷ [])) (changeRecord (Created k) (hostSuccess v))) .answer) .verdict ≡ 7
     → (a ≡ true) × (c ≡ false)
 unfolding numbersOf
-seven-by false b c v s e = let z : _≡_ {A = ℕ} 1 7 = e in absurd (omega arith)
-seven-by true false c v s e = let z : _≡_ {A = ℕ} 6 7 = e in absurd (omega arith)
-seven-by true true true v s e = let z : _≡_ {A = ℕ} 0 7 = e in absurd (omega arith)
-seven-by true true false v s e = (refl, refl)
+seven-by k false b c v s e = let z : _≡_ {A = ℕ} 1 7 = e in absurd (omega arith)
+seven-by k true false c v s e = let z : _≡_ {A = ℕ} 6 7 = e in absurd (omega arith)
+seven-by k true true true v s e = let z : _≡_ {A = ℕ} 0 7 = e in absurd (omega arith)
+seven-by k true true false v s e = (refl, refl)
 
-pub seven-exactly : (s : State) → SevenExactly s
+pub seven-exactly : (legacy : Bool) (s : State) → SevenExactly legacy s
 unfolding createOf numbersOf
-seven-exactly s =
+seven-exactly legacy s =
     let m = s .monitor in
     let v = freeSlot m in
     let lengths = lengthsHold (length (s .frames)) (length (s .map)) in
     record {
       only = λ e.
-          let p = seven-by lengths (rowVacant (rowOf (s .map) v)) (ltb v 8) v s e in
+          let p = seven-by legacy lengths (rowVacant (rowOf (s .map) v)) (ltb v 8) v s e in
           let eight : freeFrom m 0 8 ≡ 0 + 8 = omega (arith, free-at-most m 8 0, ltb-false v 8 (p .1)) in
           (p .0, λ u h. none-free m 8 0 eight u (omega arith) (omega arith));
       always = λ l live.

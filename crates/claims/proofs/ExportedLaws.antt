@@ -25,7 +25,7 @@ use Rattle.claims.proofs.RefusalLaws.{KeptRefused, step-kept}
 
 same-step : (c : Call) (s : State) → step c s ≡ exportedAs c s
 unfolding step createOf donateOf runOf removeOf clearedOf hostAccessOf registerReadOf registerWriteOf hypercallOf abortOf
-same-step Create s = refl
+same-step (Create k) s = refl
 same-step (Donate v f g) s = refl
 same-step (Run v) s = refl
 same-step (Remove v) s = refl

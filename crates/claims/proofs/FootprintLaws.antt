@@ -10,6 +10,7 @@ use Rattle.runs.proofs.Kept.{Holds, kept}
 use Rattle.words.specs.Granule.{granuleOf}
 use Rattle.tables.specs.Length.{widthOf}
 use Rattle.tables.specs.Row.{wordIndex, wordAt}
+use Rattle.records.specs.Monitor.{guestOf}
 use Rattle.commands.specs.State.{State}
 use Rattle.commands.specs.Command.{Effect, viewOf, effected}
 use Rattle.commands.proofs.CommandLaws.{command-either, performed-other, performed-count}
@@ -20,9 +21,8 @@ use Rattle.functions.specs.declared.rules.Registers.{Registers}
 use Rattle.functions.specs.declared.rules.Error.{Error}
 use Rattle.call_table.specs.declared.rows.Action.{Action}
 use Rattle.call_table.specs.declared.rows.Action.the-variants as action
-use Rattle.functions.specs.Function.{askedBy}
-use Rattle.call_table.specs.Table.{granulesOf, isTold, callRowOf}
-use Rattle.guest_hypercalls.specs.Calls.{finished, actOf, hypercallCommand, hypercallOf}
+use Rattle.call_table.specs.Table.{granulesOf, isTold}
+use Rattle.guest_hypercalls.specs.Calls.{finished, actOf, rowFor, hypercallCommand, hypercallOf}
 use Rattle.claims.specs.Footprint.{InRow, NamedInRow, Within}
 use Rattle.claims.proofs.Took.{step-took}
 
@@ -98,7 +98,7 @@ pub hypercall-within : (v : ℕ) (r : Registers) (s : State) → Within v s (hyp
 unfolding hypercallOf
 hypercall-within v r s =
     let call = hypercallCommand v r in
-    let row = callRowOf (askedBy (r .r0)) in
+    let row = rowFor r (guestOf (s .monitor) v) in
     let t = command-either (Leaves v s) call (viewOf v s) (λ a. same-tables v s) (λ e. act-within v r (row .error) (row .action) s) in
     record {
       frame-length = t .frame-length;

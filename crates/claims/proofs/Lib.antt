@@ -2,6 +2,7 @@ pub mod Claims
 pub mod LowHalf
 pub mod Took
 pub mod StepAgrees
+pub mod KindRows
 pub mod BeforeGranules
 pub mod CallAgrees
 pub mod Differing
@@ -10,6 +11,7 @@ pub mod Addresses
 pub mod R1Laws
 pub mod FootprintLaws
 pub mod RefusalLaws
+pub mod LegacyLaws
 pub mod ExportedLaws
 pub mod CreateLaws
 pub mod ShowLaws

@@ -7,15 +7,13 @@ use Rattle.commands.specs.State.{State, Answered}
 use Rattle.commands.specs.Tests.{Tests}
 use Rattle.commands.specs.Command.{View, bothTables, givenSlot, Effect, command, performed}
 use Rattle.answers.specs.declared.answer.Answer.{Answer}
-use Rattle.functions.specs.Function.{askedBy}
 use Rattle.functions.specs.Rules.{registers}
-use Rattle.call_table.specs.Table.{callRowOf}
 use Rattle.functions.specs.declared.rules.Error.{Error}
 use Rattle.functions.specs.declared.rules.Registers.{Registers}
 use Rattle.call_table.specs.declared.rows.Action.{Action}
 use Rattle.call_table.specs.declared.rows.Action.the-variants as action
 use Rattle.guest_callers.specs.Callers.{neverRunTests}
-use Rattle.guest_hypercalls.specs.Calls.{rowTests, actOf, hypercallOf}
+use Rattle.guest_hypercalls.specs.Calls.{rowTests, actOf, rowFor, hypercallOf}
 
 same-act : (r : Registers) (a : ℕ) (e : Error) (o : Action) (x : View) → actOf r e o x ≡ actOf (registers a (r .r1) (r .r2) (r .r3)) e o x
 unfolding actOf
@@ -29,7 +27,6 @@ unfolding hypercallOf
 low-half v r s =
     let a = r .r0 % 2 ^ 32 in
     let low : a % 2 ^ 32 ≡ a = omega arith in
-    let w = callRowOf (askedBy (r .r0)) in
-    let tests : View → Tests Answer = λ x. neverRunTests (x .guest) ++ rowTests w r (x .guest) in
+    let tests : View → Tests Answer = λ x. neverRunTests (x .guest) ++ rowTests (rowFor r (x .guest)) r (x .guest) in
     let doing : (View → Effect) → Answered = λ act. performed (command bothTables (givenSlot v) tests act) s in
-    rw low (ap doing (fun-ext (same-act r a (w .error) (w .action))))
+    rw low (ap doing (fun-ext (λ x. same-act r a (rowFor r (x .guest) .error) (rowFor r (x .guest) .action) x)))

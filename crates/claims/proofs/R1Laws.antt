@@ -22,7 +22,7 @@ use Rattle.answers.specs.declared.answer.Numbers.{Numbers}
 use Rattle.ranges.specs.Range.{rangeLimit}
 use Rattle.functions.specs.Function.{functionOf, askedBy}
 use Rattle.functions.specs.Rules.{registers, errorAnswer}
-use Rattle.call_table.specs.Table.{callRow, callRowOf}
+use Rattle.call_table.specs.Table.{callRow, rangedRowOf}
 use Rattle.call_table.specs.declared.rows.Action.{Action}
 use Rattle.call_table.specs.declared.rows.Action.the-variants as action
 use Rattle.call_table.specs.declared.rows.Count.the-variants.{Asked, AskedOrOne}
@@ -35,8 +35,9 @@ use Rattle.functions.specs.declared.rules.Condition.the-variants.{Enrolment}
 use Rattle.functions.specs.declared.rules.Error.the-variants.{NotSupported}
 use Rattle.guest_hypercalls.specs.Calls.{actOf, hypercallOf}
 use Rattle.claims.specs.SingleSteps.{RangeCall, share, unshare, rangeGuardMap, rangeGuardUnmap, numberOf, At, at, singleStep}
-use Rattle.claims.specs.Pieces.{isRangeRefusal, callAt, differing, CountsChanges}
+use Rattle.claims.specs.Pieces.{isRangeRefusal, callAt, differing, CountsChanges, liveLegacy}
 use Rattle.claims.specs.R1.{TellsChanges}
+use Rattle.claims.proofs.KindRows.{ranged-row}
 use Rattle.claims.proofs.CallAgrees.{functionBy, number-asked, call-agrees}
 use Rattle.claims.proofs.Changes.{single-steps-count}
 
@@ -67,7 +68,7 @@ read-told s t b a e (some k b′ t′ r) few counts true h = let z : _≡_ {A = 
 read-told s t b a e (first r) few counts false h = let z : _≡_ {A = ℕ} 0 1 = cc in absurd (omega arith)
 read-told s t b a e (first r) few counts true h = (λ z. let y : _≡_ {A = ℕ} 0 1 = cc in absurd (omega arith), λ z. cc)
 
-module _ (c : RangeCall) (r0 : ℕ) (number : r0 % 2 ^ 32 ≡ numberOf c) (v b r3 : ℕ) (s : State) where
+module _ (c : RangeCall) (r0 : ℕ) (number : r0 % 2 ^ 32 ≡ numberOf c) (v b r3 : ℕ) (s : State) (ranged : liveLegacy v s ≡ false) where
   called : ℕ → Answered
   called m = hypercallOf v (registers r0 b m r3) s
 
@@ -79,15 +80,16 @@ module _ (c : RangeCall) (r0 : ℕ) (number : r0 % 2 ^ 32 ≡ numberOf c) (v b r
       let steps : min rangeLimit m ≡ suc n = omega arith in
       let e = run (singleStep c v r3) (suc n) (at b s) in
       let few = run-at-most (singleStep c v r3) (suc n) (at b s) in
-      let reads : callAt (λ a. r0) v r3 m (at b s) ≡ told e = rw steps at (call-agrees c (λ a. r0) (λ a. number) v r3 m (at b s) h) in
+      let reads : callAt (λ a. r0) v r3 m (at b s) ≡ told e = rw steps at (call-agrees c (λ a. r0) (λ a. number) v r3 m (at b s) h ranged) in
       let a = numbersOf (called m .answer) in
       let p = read-told s (called m .left) b a e (run-shape (singleStep c v r3) n (at b s)) (omega arith) (single-steps-count c v r3 s (suc n) b) (isRangeRefusal a) reads in
       record { done = p .0; none = p .1 }
 
   -- "Count 0 means 1 for share and unshare"
-  zero-is-one : (f : Function) (o : Operation) → askedBy r0 ≡ f → callRowOf f .action ≡ action.Change o AskedOrOne → callRowOf f .r2 ≡ Any → called 0 ≡ called 1
-  unfolding hypercallOf called actOf
-  zero-is-one f o e same any = rw (e, same, any)
+  zero-is-one : (f : Function) (o : Operation) → askedBy r0 ≡ f → rangedRowOf f .action ≡ action.Change o AskedOrOne → rangedRowOf f .r2 ≡ Any
+      → called 0 ≡ called 1
+  unfolding called actOf
+  zero-is-one f o e same any = rw (ranged-row v (registers r0 b 0 r3) s ranged, ranged-row v (registers r0 b 1 r3) s ranged, e, same, any)
 
   refused-tells : (a : Answer) → isRangeRefusal (numbersOf a) ≡ true → TellsChanges s (answered s a)
   refused-tells a h = record { done = λ e. let z : _≡_ {A = ℕ} 0 1 = cc in absurd (omega arith); none = λ e. refl }
@@ -103,16 +105,16 @@ module _ (c : RangeCall) (r0 : ℕ) (number : r0 % 2 ^ 32 ≡ numberOf c) (v b r
   registers-wrong true true false x₄ x₅ done h = refused-tells NeverRun refl
   registers-wrong true true true x₄ x₅ done h = rw h (refused-tells (errorAnswer NotSupported) refl)
 
-  zero-refused : (f : Function) (a : Action) → askedBy r0 ≡ f → callRowOf f ≡ callRow Base NotZero Any Enrolment NotSupported a → TellsChanges s (called 0)
-  unfolding hypercallOf called
+  zero-refused : (f : Function) (a : Action) → askedBy r0 ≡ f → rangedRowOf f ≡ callRow Base NotZero Any Enrolment NotSupported a → TellsChanges s (called 0)
+  unfolding called
   zero-refused f a e same =
       let guest = guestOf (s .monitor) v in
-      rw (e, same)
+      rw (ranged-row v (registers r0 b 0 r3) s ranged, e, same)
       (registers-wrong (lengthsHold (length (s .frames)) (length (s .map))) (liveIn v guest) (guest .run) (isBase b && false) (guest .enrolled)
       (actOf (registers r0 b 0 r3) NotSupported a (viewOf v s)) (and-false (isBase b)))
 
   zero-count : TellsChanges s (called 0)
-  unfolding callRowOf
+  unfolding rangedRowOf
   zero-count = on c (ap functionOf number ∙ number-asked c)
     where
       on : (c : RangeCall) → askedBy r0 ≡ functionBy c → TellsChanges s (called 0)

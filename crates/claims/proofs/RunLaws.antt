@@ -9,7 +9,7 @@ use Rattle.records.proofs.MonitorLaws.{put-own, lives}
 use Rattle.host_guests.specs.Calls.{runOf}
 
 marked : (g : Guest) → g .run ≡ true → markRun g ≡ g
-marked g e = ap (λ (x : Bool). withFlags (g .live) x (g .enrolled) g) (sym e)
+marked g e = ap (λ (x : Bool). withFlags (g .live) (g .legacy) x (g .enrolled) g) (sym e)
 
 pub run-again : (v : ℕ) (s : State) → guestOf (s .monitor) v .run ≡ true → runOf v s .left ≡ s
 unfolding runOf

@@ -31,7 +31,7 @@ use Rattle.answers.specs.declared.answer.Numbers.{Numbers}
 use Rattle.granules.specs.Kind.{sharing, unsharing, guarding, unguarding, changeOf}
 use Rattle.granules.specs.Step.{Place, place, Refusal, isDamaged, notDone, written, stepFrom, tableStep}
 use Rattle.granules.specs.declared.kinds.Operation.{Operation}
-use Rattle.claims.specs.SingleSteps.{RangeCall, share, unshare, rangeGuardMap, rangeGuardUnmap, errorOf, granuleTests, frameIn, wordMade, withSharedByte, framesMade, changedAt, At, at}
+use Rattle.claims.specs.SingleSteps.{RangeCall, share, unshare, rangeGuardMap, rangeGuardUnmap, granuleTests, frameIn, wordMade, withSharedByte, framesMade, changedAt, At, at}
 
 abbrev pub operationOf : RangeCall → Operation
 operationOf share = sharing
@@ -39,13 +39,13 @@ operationOf unshare = unsharing
 operationOf rangeGuardMap = guarding
 operationOf rangeGuardUnmap = unguarding
 
--- the step behind the tests of the granule alone
-abbrev pub granuleRefusal : RangeCall → ℕ → At → Option Numbers
-granuleRefusal c v (at b s) =
-    firstRefusal (granuleTests c (ltb (granuleOf b) (widthOf (length (s .map)))) (pairAt (s .frames) (s .map) v (granuleOf b)))
+-- the step behind the tests of the granule alone; n is the answer where no other is named
+abbrev pub granuleRefusal : Numbers → RangeCall → ℕ → At → Option Numbers
+granuleRefusal n c v (at b s) =
+    firstRefusal (granuleTests n c (ltb (granuleOf b) (widthOf (length (s .map)))) (pairAt (s .frames) (s .map) v (granuleOf b)))
 
-abbrev pub granuleStep : RangeCall → ℕ → At → Step At Numbers
-granuleStep c v (at b s) = gated (granuleRefusal c v (at b s)) (took (at (b + granuleSize) (changedAt c v b s)))
+abbrev pub granuleStep : Numbers → RangeCall → ℕ → At → Step At Numbers
+granuleStep n c v (at b s) = gated (granuleRefusal n c v (at b s)) (took (at (b + granuleSize) (changedAt c v b s)))
 
 -- a frame word with its sharing byte made anew is the word built for that sharing
 rebuilt : (v g w : ℕ) (s t : Bool) → frameWordOf w ≡ frame-word.Owned v s g → withSharedByte (sharingByte t) w ≡ frameBits (frame-word.Owned v t g)
@@ -61,22 +61,22 @@ rebuilt v g w s t e =
 abbrev pub located : Monitor → Place → At
 located m (place map frames g) = at (addressOf g) (state frames map m)
 
-abbrev pub numbersBy : RangeCall → Refusal → Numbers
-numbersBy c isDamaged = verdictWith 6 0
-numbersBy c notDone = errorOf c
+abbrev pub numbersBy : Numbers → Refusal → Numbers
+numbersBy n isDamaged = verdictWith 6 0
+numbersBy n notDone = n
 
 -- what is made of a granule in the state k, whose map word is the i-th
-abbrev made : RangeCall → Monitor → List ℕ → List ℕ → ℕ → ℕ → GranuleState → Step At Numbers
-made c m frames map i b k =
-    gated (firstRefusal (granuleTests c true k))
+abbrev made : Numbers → RangeCall → Monitor → List ℕ → List ℕ → ℕ → ℕ → GranuleState → Step At Numbers
+made n c m frames map i b k =
+    gated (firstRefusal (granuleTests n c true k))
     (took (at (b + granuleSize) (state (framesMade c (frameIn k) frames) (set map i (wordMade c (frameIn k))) m)))
 
-module _ (v : ℕ) (m : Monitor) (map frames : List ℕ) (g i : ℕ) where
+module _ (n : Numbers) (v : ℕ) (m : Monitor) (map frames : List ℕ) (g i : ℕ) where
   next : addressOf g + granuleSize ≡ addressOf (suc g)
   next = omega arith
 
   like-made : (c : RangeCall) (k : GranuleState) → ((s : Bool) (f : ℕ) → k ≡ granule-state.Frame s f → frameWordOf (getD frames f 0) ≡ frame-word.Owned v s g)
-      → made c m frames map i (addressOf g) k ≡ mapStep (located m) (numbersBy c) (written (operationOf c .makes) v i map frames g (changeOf (operationOf c) k))
+      → made n c m frames map i (addressOf g) k ≡ mapStep (located m) (numbersBy n) (written (operationOf c .makes) v i map frames g (changeOf (operationOf c) k))
   unfolding changeOf mapBits
   like-made share granule-state.Vacant o = refl
   like-made share (granule-state.Frame true f) o = refl
@@ -108,26 +108,26 @@ owner frames v g w s f e =
     let says : mapWordOf w ≡ map-word.Frame s f = granule-says frames v g (mapWordOf w) (granule-state.Frame s f) (sym e) (λ q. let z : _≡_ {A = ℕ} 0 1 = cc in omega arith) in
     granule-names frames v g s f (sym e ∙ ap (granuleState frames v g) says) .1
 
-module _ (c : RangeCall) (v : ℕ) (hv : v < 8) (m : Monitor) where
-  like : (p : Place) → granuleStep c v (located m p) ≡ mapStep (located m) (numbersBy c) (tableStep (operationOf c) v p)
+module _ (n : Numbers) (c : RangeCall) (v : ℕ) (hv : v < 8) (m : Monitor) where
+  pub like : (p : Place) → granuleStep n c v (located m p) ≡ mapStep (located m) (numbersBy n) (tableStep (operationOf c) v p)
   unfolding stepFrom
   like (place map frames g) = rw (granule-address g) (on (ltb g (widthOf (length map))) refl)
     where
       on : (t : Bool) → ltb g (widthOf (length map)) ≡ t
-          → gated (firstRefusal (granuleTests c t (pairAt frames map v g)))
+          → gated (firstRefusal (granuleTests n c t (pairAt frames map v g)))
           (took
           (at (addressOf g + granuleSize)
           (state (framesMade c (frameIn (pairAt frames map v g)) frames) (set map (wordIndex (length map) v g) (wordMade c (frameIn (pairAt frames map v g)))) m)))
-          ≡ mapStep (located m) (numbersBy c)
+          ≡ mapStep (located m) (numbersBy n)
           (cond t
           (written (operationOf c .makes) v (wordIndex (length map) v g) map frames g
           (changeOf (operationOf c) (granuleState frames v g (mapWordOf (wordAt map v g)))))
           (refuses notDone))
       on true e =
           rw (pair-inside frames map v g hv e)
-          (like-made v m map frames g (wordIndex (length map) v g) c (granuleState frames v g (mapWordOf (wordAt map v g))) (λ s f q. owner frames v g (wordAt map v g) s f q))
+          (like-made n v m map frames g (wordIndex (length map) v g) c (granuleState frames v g (mapWordOf (wordAt map v g))) (λ s f q. owner frames v g (wordAt map v g) s f q))
       on false e = refl
 
   -- granules from g on, at their addresses, and in the table
-  pub agrees : (n : ℕ) (p : Place) → run (granuleStep c v) n (located m p) ≡ mapEnd (located m) (numbersBy c) (run (tableStep (operationOf c) v) n p)
-  agrees n p = alike (located m) (numbersBy c) (λ q. Unit {0}) (tableStep (operationOf c) v) (granuleStep c v) (λ s t i e. tt) (λ s i. like s) n p tt
+  pub agrees : (k : ℕ) (p : Place) → run (granuleStep n c v) k (located m p) ≡ mapEnd (located m) (numbersBy n) (run (tableStep (operationOf c) v) k p)
+  agrees k p = alike (located m) (numbersBy n) (λ q. Unit {0}) (tableStep (operationOf c) v) (granuleStep n c v) (λ s t i e. tt) (λ s i. like s) k p tt

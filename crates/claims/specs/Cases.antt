@@ -1,4 +1,5 @@
 -- Document 01, "Bench sheet": the cases marked *, with all five numbers of each answer.
+use mathlib.Core.Bool.{false}
 use mathlib.Core.List.{List, [], _∷_}
 use Prim.Native.Nat.{ℕ, _-_, _^_}
 use lib.ListN.{replicate, set}
@@ -15,7 +16,7 @@ use Rattle.claims.specs.Case.{case}
 
 -- a guest that was run
 abbrev pub caller : Guest
-caller = markRun newGuest
+caller = markRun (newGuest false)
 
 -- "Slot 0, F = 256, W = 64, run, granule 5 private, 6 vacant": the frame is 3, and all other granules are vacant too
 abbrev pub bench : State

@@ -12,7 +12,7 @@ use Rattle.calls.specs.declared.call.Call.the-variants.{Create, Donate, Run, Re
 
 -- such a function leaves `lentAfter` of this; that of show, which is lent records and map to read alone, states the answer of it
 abbrev pub exportedAs : Call → State → Answered
-exportedAs Create = createOf
+exportedAs (Create k) = createOf k
 exportedAs (Donate v f g) = donateOf v f g
 exportedAs (Run v) = runOf v
 exportedAs (Remove v) = removeOf v

@@ -26,20 +26,24 @@ guestFrames = 0x04000000 ∷ 0x04010001 ∷ 0 ∷ 0xFF000000 ∷ 0x04000004 ∷ 
 abbrev pub guestRow : List ℕ
 guestRow = 0x40000000 ∷ 0x80000001 ∷ 0 ∷ 0xC0000000 ∷ 0x40000004 ∷ 0x40000005 ∷ 0x40000002 ∷ 0x40000007 ∷ []
 
--- slot 3 was run; it is enrolled or not, and has this VENDOR_HYP
-abbrev pub callerWith : Bool → ℕ → Guest
-callerWith e x = withFlags true true e (withBitmaps 5 6 x zeroGuest)
+-- slot 3 was run; it is legacy or not, enrolled or not, and has this VENDOR_HYP
+abbrev pub callerOf : Bool → Bool → ℕ → Guest
+callerOf k e x = withFlags true k true e (withBitmaps 5 6 x zeroGuest)
 
--- slot 2 is live and was never run; slot 4 is not live, and was run and enrolled
-abbrev pub callersWith : Bool → ℕ → Monitor
-callersWith e x = withGuest (withGuest (withGuest fresh 2 newGuest) 3 (callerWith e x)) 4 (withFlags false true true newGuest)
+-- slot 2 is live and was never run; slot 4 is not live, and was run and enrolled; both of the same kind
+abbrev pub callersOf : Bool → Bool → ℕ → Monitor
+callersOf k e x = withGuest (withGuest (withGuest fresh 2 (newGuest k)) 3 (callerOf k e x)) 4 (withFlags false k true true (newGuest k))
 
 -- rows of eight granules, this row of slot 3; granule 0 of slot 2 is damaged
 abbrev pub mapWith : List ℕ → List ℕ
 mapWith row = replicate 16 0 ++ (0x40000002 ∷ replicate 7 0 ++ (row ++ replicate 32 0))
 
+abbrev pub stateOf : Bool → Bool → ℕ → State
+stateOf k e x = state guestFrames (mapWith guestRow) (callersOf k e x)
+
+-- with ranges
 abbrev pub guestState : Bool → ℕ → State
-guestState e x = state guestFrames (mapWith guestRow) (callersWith e x)
+guestState = stateOf false
 
 abbrev pub plain : State
 plain = guestState false 0
@@ -49,11 +53,11 @@ enrolled = guestState true 0
 
 -- 128 granules of slot 3, all vacant
 abbrev pub wide : State
-wide = state (0 ∷ []) (replicate 1024 0) (withGuest fresh 3 (callerWith true 0))
+wide = state (0 ∷ []) (replicate 1024 0) (withGuest fresh 3 (callerOf false true 0))
 
 -- a map table of 63 words
 abbrev pub cut : State
-cut = state guestFrames (replicate 63 0) (withGuest fresh 3 (callerWith true 0))
+cut = state guestFrames (replicate 63 0) (withGuest fresh 3 (callerOf false true 0))
 
 -- a frame table of no words
 abbrev pub noGuestFrames : State
@@ -68,8 +72,12 @@ abbrev pub each : State → ℕ → ℕ → Numbers → List ℕ → List (Case 
 each s n count answer bases = map (λ b. case s [] (asks n b count 0) answer) bases
 
 -- with each function number of a list, all of which answer NS
-abbrev pub unsupported : List ℕ → List (Case Numbers)
-unsupported ns = map (λ n. case (guestState true 1) [] (asks n 0 0 0) (returnsError 1)) ns
+abbrev pub unsupported : State → List ℕ → List (Case Numbers)
+unsupported s ns = map (λ n. case s [] (asks n 0 0 0) (returnsError 1)) ns
+
+-- the numbers beside those of the table
+abbrev pub otherNumbers : List ℕ
+otherNumbers = 0 ∷ 0x85FFFFFF ∷ 0x86000001 ∷ 0x86000003 ∷ 0x8600FF00 ∷ 0x8600FF02 ∷ 0xC6000000 ∷ 0xC6000001 ∷ 0xC600000C ∷ 0xFFFFFFFF ∷ []
 
 abbrev pub uidAnswer : Numbers
 uidAnswer = numbers 10 0xB66FB428 0xE911C52E 0x564BCAA9 0x743A004D
@@ -206,10 +214,9 @@ relinquishCases =
     -- shared, vacant, guarded, beyond the row, by far, no base, no base of a damaged granule
     ++ each plain 0xC6000009 0 (returnsError 3) (0x1000 ∷ 0x2000 ∷ 0x3000 ∷ 0x8000 ∷ 0x100004000 ∷ 0x4001 ∷ 0x4800 ∷ 0x6001 ∷ [])
 
--- "Anything else answers NS.": the numbers beside those of the table
+-- "Anything else answers NS."
 abbrev pub unknownCases : List (Case Numbers)
-unknownCases =
-    unsupported (0 ∷ 0x85FFFFFF ∷ 0x86000001 ∷ 0x86000003 ∷ 0x8600FF00 ∷ 0x8600FF02 ∷ 0xC6000000 ∷ 0xC6000001 ∷ 0xC600000C ∷ 0xFFFFFFFF ∷ [])
+unknownCases = unsupported (guestState true 1) otherNumbers
 
 -- verdicts 1 to 3, in this order and before all else: a length and a slot, a slot and a guest never run, a guest never run and a register, or
 -- a damaged granule. A record that isn't live counts as dead, and so do slots above 7 whose low bits are those of a guest.
@@ -266,8 +273,11 @@ abbrev pub guestCases : List (Case Numbers)
 guestCases = tellCases ++ (enrollCases ++ (shareCases ++ (guardCases ++ (relinquishCases ++ (unknownCases ++ (callerCases ++ abortCases))))))
 
 -- a call that leaves these frame words, and this row of slot 3
+abbrev pub leftOf : Bool → Bool → Call → List ℕ → List ℕ → Case State
+leftOf k e c fs row = leaves (stateOf k e 7) (c ∷ []) (state fs (mapWith row) (callersOf k e 7))
+
 abbrev pub leftAfter : Bool → Call → List ℕ → List ℕ → Case State
-leftAfter e c fs row = leaves (guestState e 7) (c ∷ []) (state fs (mapWith row) (callersWith e 7))
+leftAfter = leftOf false
 
 -- what calls leave: both tables and the records
 abbrev pub guestLeft : List (Case State)

@@ -19,14 +19,14 @@ use Rattle.claims.specs.Case.{case, leaves}
 
 -- a record that is not live and not zero
 abbrev pub deadNonZero : Guest
-deadNonZero = withFlags false true true (withBitmaps 1 2 7 zeroGuest)
+deadNonZero = withFlags false false true true (withBitmaps 1 2 7 zeroGuest)
 
 -- slot 0 was run, slot 1 was not, the others are dead
 abbrev pub records : Monitor
-records = record { guests = markRun newGuest ∷ newGuest ∷ deadNonZero ∷ replicate 5 zeroGuest }
+records = record { guests = markRun (newGuest false) ∷ (newGuest false) ∷ deadNonZero ∷ replicate 5 zeroGuest }
 
 abbrev pub allLive : Monitor
-allLive = record { guests = replicate 8 newGuest }
+allLive = record { guests = replicate 8 (newGuest false) }
 
 -- four frames: private to granule 0 of slot 0; shared, of its granule 1; the host's; waiting
 abbrev pub frames : List ℕ
@@ -60,7 +60,7 @@ secondDamaged = state frames (0x40000000 ∷ 0x80000001 ∷ 0xC0000000 ∷ 0 ∷
 
 -- live guests with bitmaps of their own, as they can be lent: slot 0 was run, slot 1 was not
 abbrev pub withOwnBitmaps : Bool → Guest
-withOwnBitmaps r = withFlags true r false (withBitmaps 5 6 7 zeroGuest)
+withOwnBitmaps r = withFlags true false r false (withBitmaps 5 6 7 zeroGuest)
 
 abbrev pub lentWith : Guest → Guest → State
 lentWith a b = state frames rows (record { guests = a ∷ b ∷ deadNonZero ∷ replicate 5 zeroGuest })
@@ -81,21 +81,21 @@ registerRefused n = verdictWith 9 (2 ^ 64 - n)
 -- create, donate
 abbrev pub creations : List (Case Numbers)
 creations =
-    case sound [] Create (hostDoneWith 2)
+    case sound [] (Create false) (hostDoneWith 2)
     -- the dead record's bitmap is not kept
-    ∷ case sound (Create ∷ []) (RegisterRead 2 2) (hostDoneWith 1)
-    ∷ case sound (Create ∷ []) Create (hostDoneWith 3)
+    ∷ case sound (Create false ∷ []) (RegisterRead 2 2) (hostDoneWith 1)
+    ∷ case sound (Create false ∷ []) (Create false) (hostDoneWith 3)
     -- the first word of the row, and the second, is not vacant
-    ∷ case damaged [] Create (hostRefused 6)
-    ∷ case secondDamaged [] Create (hostRefused 6)
-    ∷ case damagedNoFrames [] Create (hostRefused 1)
+    ∷ case damaged [] (Create false) (hostRefused 6)
+    ∷ case secondDamaged [] (Create false) (hostRefused 6)
+    ∷ case damagedNoFrames [] (Create false) (hostRefused 1)
     -- eight from fresh tables; slot 7 alone is dead; none is
-    ∷ case (freshState 1 1) (replicate 7 Create) Create (hostDoneWith 7)
-    ∷ case (freshState 1 1) (replicate 8 Create) Create (hostRefused 7)
-    ∷ case (state frames rows (withGuest allLive 7 zeroGuest)) [] Create (hostDoneWith 7)
-    ∷ case (state frames rows allLive) [] Create (hostRefused 7)
-    ∷ case (state [] rows allLive) [] Create (hostRefused 1)
-    ∷ case noFrames [] Create (hostRefused 1)
+    ∷ case (freshState 1 1) (replicate 7 (Create false)) (Create false) (hostDoneWith 7)
+    ∷ case (freshState 1 1) (replicate 8 (Create false)) (Create false) (hostRefused 7)
+    ∷ case (state frames rows (withGuest allLive 7 zeroGuest)) [] (Create false) (hostDoneWith 7)
+    ∷ case (state frames rows allLive) [] (Create false) (hostRefused 7)
+    ∷ case (state [] rows allLive) [] (Create false) (hostRefused 1)
+    ∷ case noFrames [] (Create false) (hostRefused 1)
     ∷ case sound [] (Donate 1 2 1) (hostDoneWith 0)
     ∷ case sound (Donate 1 2 1 ∷ []) (Access 2) (hostDoneWith 0)
     ∷ case noFrames [] (Donate 1 2 1) (hostRefused 1)
@@ -135,7 +135,7 @@ runs =
     ∷ case sound [] (Remove 0) (hostDoneWith 2)
     ∷ case sound [] (Remove 1) (hostDoneWith 0)
     ∷ case sound (Remove 0 ∷ []) (Access 1) (hostDoneWith 0)
-    ∷ case sound (Remove 0 ∷ []) Create (hostDoneWith 0)
+    ∷ case sound (Remove 0 ∷ []) (Create false) (hostDoneWith 0)
     ∷ case sound (Remove 0 ∷ []) (Remove 0) (hostRefused 2)
     -- the first granule of the row is damaged, the second
     ∷ case damaged [] (Remove 0) (hostRefused 6)
@@ -230,21 +230,21 @@ hostCases = creations ++ (runs ++ (looks ++ (registerCases ++ wideCases)))
 -- what calls leave: both tables and the records
 abbrev pub hostLeft : List (Case State)
 hostLeft =
-    leaves sound (Create ∷ []) (state frames rows (record { guests = markRun newGuest ∷ newGuest ∷ newGuest ∷ replicate 5 zeroGuest }))
+    leaves sound (Create false ∷ []) (state frames rows (record { guests = markRun (newGuest false) ∷ (newGuest false) ∷ (newGuest false) ∷ replicate 5 zeroGuest }))
     ∷ leaves sound (Donate 1 2 1 ∷ [])
     (state (0x01000000 ∷ 0x01010001 ∷ 0x02000001 ∷ 0xFF000000 ∷ []) (0x40000000 ∷ 0x80000001 ∷ 0xC0000000 ∷ 0x40000002 ∷ replicate 12 0) records)
     ∷ leaves sound (Remove 0 ∷ [])
-    (state (0xFF000000 ∷ 0xFF000000 ∷ 0 ∷ 0xFF000000 ∷ []) (0 ∷ 0 ∷ 0xC0000000 ∷ replicate 13 0) (record { guests = zeroGuest ∷ newGuest ∷ deadNonZero ∷ replicate 5 zeroGuest }))
+    (state (0xFF000000 ∷ 0xFF000000 ∷ 0 ∷ 0xFF000000 ∷ []) (0 ∷ 0 ∷ 0xC0000000 ∷ replicate 13 0) (record { guests = zeroGuest ∷ (newGuest false) ∷ deadNonZero ∷ replicate 5 zeroGuest }))
     ∷ leaves sound (Remove 1 ∷ [])
-    (state frames (0x40000000 ∷ 0x80000001 ∷ replicate 14 0) (record { guests = markRun newGuest ∷ zeroGuest ∷ deadNonZero ∷ replicate 5 zeroGuest }))
+    (state frames (0x40000000 ∷ 0x80000001 ∷ replicate 14 0) (record { guests = markRun (newGuest false) ∷ zeroGuest ∷ deadNonZero ∷ replicate 5 zeroGuest }))
     ∷ leaves sound (Cleared 3 ∷ []) (state (0x01000000 ∷ 0x01010001 ∷ 0 ∷ 0 ∷ []) rows records)
     ∷ leaves sound (Access 0 ∷ Show 1 ∷ RegisterRead 1 2 ∷ []) sound
     ∷ leaves lentBitmaps (Run 1 ∷ []) (lentWith (withOwnBitmaps true) (withOwnBitmaps true))
     ∷ leaves lentBitmaps (Run 0 ∷ []) lentBitmaps
-    ∷ leaves (lentWith newGuest (enroll newGuest)) (Run 1 ∷ []) (lentWith newGuest (withFlags true true true newGuest))
-    ∷ leaves lentBitmaps (RegisterWrite 1 0 0 ∷ []) (lentWith (withOwnBitmaps true) (withFlags true false false (withBitmaps 0 6 7 zeroGuest)))
-    ∷ leaves lentBitmaps (RegisterWrite 1 1 0 ∷ []) (lentWith (withOwnBitmaps true) (withFlags true false false (withBitmaps 5 0 7 zeroGuest)))
-    ∷ leaves lentBitmaps (RegisterWrite 1 2 1 ∷ []) (lentWith (withOwnBitmaps true) (withFlags true false false (withBitmaps 5 6 1 zeroGuest)))
+    ∷ leaves (lentWith (newGuest false) (enroll (newGuest false))) (Run 1 ∷ []) (lentWith (newGuest false) (withFlags true false true true (newGuest false)))
+    ∷ leaves lentBitmaps (RegisterWrite 1 0 0 ∷ []) (lentWith (withOwnBitmaps true) (withFlags true false false false (withBitmaps 0 6 7 zeroGuest)))
+    ∷ leaves lentBitmaps (RegisterWrite 1 1 0 ∷ []) (lentWith (withOwnBitmaps true) (withFlags true false false false (withBitmaps 5 0 7 zeroGuest)))
+    ∷ leaves lentBitmaps (RegisterWrite 1 2 1 ∷ []) (lentWith (withOwnBitmaps true) (withFlags true false false false (withBitmaps 5 6 1 zeroGuest)))
     ∷ []
 
 -- a slot, and what show answers and hands back for it

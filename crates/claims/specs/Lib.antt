@@ -2,6 +2,7 @@ pub mod Refusals
 pub mod Exported
 pub mod SingleSteps
 pub mod Pieces
+pub mod LegacyCalls
 pub mod R1
 pub mod Footprint
 pub mod Case
@@ -9,3 +10,4 @@ pub mod Cases
 pub mod HostCalls
 pub mod HostCases
 pub mod GuestCases
+pub mod LegacyCases

@@ -7,6 +7,7 @@ use lib.Dec.{eqb}
 use lib.ListN.{length}
 use Rattle.runs.specs.Run.{complete, refused, End, ended, pieces}
 use Rattle.words.specs.Granule.{granuleSize}
+use Rattle.records.specs.Monitor.{guestOf}
 use Rattle.answers.specs.Answer.{numbersOf}
 use Rattle.commands.specs.State.{State, Answered}
 use Rattle.answers.specs.declared.answer.Numbers.{Numbers}
@@ -33,6 +34,10 @@ callAt r0 v r3 m (at b s) = readCall b (hypercallOf v (registers (r0 b) b m r3) 
 -- "carry on m − k at b + 4,096 × k. Stop when none is left or a call refuses. The next piece starts at the address where the last one ended."
 abbrev pub carriedOn : (ℕ → ℕ) → ℕ → ℕ → List ℕ → At → End At Numbers
 carriedOn r0 v r3 ms p = pieces (callAt r0 v r3) ms p
+
+-- document 02, Wish 1: "demand 3 leaves out live old guests only"; of these there is one in slot v
+abbrev pub liveLegacy : ℕ → State → Bool
+liveLegacy v s = guestOf (s .monitor) v .live && guestOf (s .monitor) v .legacy
 
 -- how many words differ
 abbrev pub differing : List ℕ → List ℕ → ℕ

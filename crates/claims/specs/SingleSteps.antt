@@ -79,14 +79,15 @@ callTests c v r3 b s =
     ∷ (enrolmentRight c guest, errorOf c)
     ∷ []
 
--- then "the granule below W; verdict 6 for this granule with its frame; the kind that the call needs", of a granule in the state k
-abbrev pub granuleTests : RangeCall → Bool → GranuleState → Tests Numbers
-granuleTests c below k = (below, errorOf c) ∷ (granuleUndamaged k, verdictWith 6 0) ∷ (kindRight c k, errorOf c) ∷ []
+-- then "the granule below W; verdict 6 for this granule with its frame; the kind that the call needs", of a granule in the state k; n is the
+-- answer "where no other is named"
+abbrev pub granuleTests : Numbers → RangeCall → Bool → GranuleState → Tests Numbers
+granuleTests n c below k = (below, n) ∷ (granuleUndamaged k, verdictWith 6 0) ∷ (kindRight c k, n) ∷ []
 
 abbrev pub stepTests : RangeCall → ℕ → ℕ → ℕ → State → Tests Numbers
 stepTests c v r3 b s =
     callTests c v r3 b s
-    ++ granuleTests c (ltb (granuleOf b) (widthOf (length (s .map)))) (pairAt (s .frames) (s .map) v (granuleOf b))
+    ++ granuleTests (errorOf c) c (ltb (granuleOf b) (widthOf (length (s .map)))) (pairAt (s .frames) (s .map) v (granuleOf b))
 
 -- f, where a granule has a frame
 abbrev pub frameIn : GranuleState → ℕ

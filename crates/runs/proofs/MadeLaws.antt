@@ -66,7 +66,7 @@ module _ {S R : Type 0} (P : S → Type 0) where
         on ih (ended k t (refused r)) h = tt
         on ih (ended k t outOfFuel) h = tt
 
-every-first : {S : Type 0} (P Q : S → Type 0) (xs : List S) → Every (λ s. P s × Q s) xs → Every P xs
+pub every-first : {S : Type 0} (P Q : S → Type 0) (xs : List S) → Every (λ s. P s × Q s) xs → Every P xs
 every-first P Q [] h = tt
 every-first P Q (x ∷ xs) h = (h .0 .0, every-first P Q xs (h .1))
 
