@@ -1,6 +1,6 @@
 -- What the customer asks for, each with the words that ask for it. The definitions are in specs/; all else in proofs/ only helps to prove these.
--- No theorem here assumes anything of the state, but that of a second run, that the guest was run: lengths, tables and records may be sound or
--- damaged. Those of histories, which begin with fresh tables, are stated and proved in the crate history, proofs/History.antt, and passed on
+-- Of the state no theorem here assumes anything, but that of a second run, that the guest was run, and those of condition 3 and R1, that no live
+-- guest in the slot is legacy: lengths, tables and records may be sound or damaged. Those of histories, which begin with fresh tables, are stated and proved in the crate history, proofs/History.antt, and passed on
 -- from there.
 use mathlib.Core.Path.{_≡_, refl}
 use mathlib.Core.Logic.{_≢_}
@@ -51,7 +51,7 @@ use Rattle.claims.specs.HostCalls.{SevenExactly, RowOrEmpty, CountsFrame
 use Rattle.claims.specs.Cases.{cases}
 use Rattle.claims.specs.HostCases.{hostCases, hostLeft, rowsShown}
 use Rattle.claims.specs.GuestCases.{guestCases, guestLeft}
-use Rattle.claims.specs.LegacyCases.{legacyCases, legacyLeft}
+use Rattle.claims.specs.LegacyCases.{legacyCases, legacyLeft, leftOut}
 use Rattle.claims.proofs.LowHalf.{low-half}
 use Rattle.claims.proofs.CallAgrees.{NotLegacy, not-legacy-kept, call-agrees}
 use Rattle.claims.proofs.Changes.{single-steps-count}
@@ -164,7 +164,7 @@ unfolding step donateOf runOf removeOf clearedOf hostAccessOf registerReadOf reg
 guest-case-table = (refl, refl)
 
 -- and of guests that know no ranges: every row of their own table, their aborts before and after run, their creation, and one beside a guest with
--- ranges
-pub legacy-case-table : AsExpected legacyCases × AsExpected legacyLeft
+-- ranges; what they leave; and whom condition 3 leaves out
+pub legacy-case-table : AsExpected legacyCases × (AsExpected legacyLeft × AsExpected leftOut)
 unfolding step createOf freeFrom donateOf runOf removeOf clearedOf hostAccessOf registerReadOf registerWriteOf registerNumbered hypercallOf abortOf actOf guestAccessOf functionOf rangedRowOf legacyRowOf stepFrom changeOf rowVacant undamagedFrom framesFreed framesNamed boundsOf granuleState pairAt frameState pairOf mapWordOf frameWordOf mapBits frameBits numbersOf guestOf withGuest framesHold mapHolds
-legacy-case-table = (refl, refl)
+legacy-case-table = (refl, (refl, refl))

@@ -1,6 +1,6 @@
 -- Document 02, Wish 1: every row of the table of guests that know no ranges, with its answer and each of its refusals, their aborts and creation,
 -- with all five numbers of each answer; and what these calls leave.
-use mathlib.Core.Bool.{true, false}
+use mathlib.Core.Bool.{Bool, true, false}
 use mathlib.Core.List.{List, [], _∷_, _++_, map}
 use Prim.Native.Nat.{ℕ, _*_, _-_, _^_}
 use lib.ListN.{replicate}
@@ -15,6 +15,7 @@ use Rattle.calls.specs.declared.call.Call.{Call}
 use Rattle.calls.specs.declared.call.Call.the-variants.{Create, Donate, Run, Remove, Cleared, Access, RegisterRead, RegisterWrite, Hypercall, Abort}
 use Rattle.claims.specs.Case.{case, leaves}
 use Rattle.claims.specs.Cases.{returnsDone, returnsError}
+use Rattle.claims.specs.Pieces.{liveLegacy}
 use Rattle.claims.specs.HostCases.{sound, damaged, noFrames}
 use Rattle.claims.specs.GuestCases.{guestFrames, guestRow, mapWith, callerOf, stateOf, asks, each, unsupported, otherNumbers, uidAnswer, featuresAnswer, isDamage, aborts, exits, resumes, excepts, leftOf}
 
@@ -218,4 +219,14 @@ legacyLeft =
     (state (0 ∷ []) (replicate 8 0) (withGuest fresh 0 (withFlags true true true true zeroGuest)))
     ∷ leaves (freshState 1 1) (Create true ∷ Run 0 ∷ Remove 0 ∷ []) (freshState 1 1)
     ∷ leaves (freshState 9 8) (Create true ∷ Create false ∷ Donate 0 3 5 ∷ Donate 0 4 6 ∷ Donate 1 7 5 ∷ Donate 1 8 6 ∷ Run 0 ∷ Run 1 ∷ []) beside
+    ∷ []
+
+-- "demand 3 leaves out live old guests only": run or not, but no dead slot whose record says legacy, no guest with ranges, no slot above 7
+abbrev pub leftOut : List (Case Bool)
+leftOut =
+    record { found = liveLegacy 3 legacy; expected = true }
+    ∷ record { found = liveLegacy 2 legacy; expected = true }
+    ∷ record { found = liveLegacy 4 legacy; expected = false }
+    ∷ record { found = liveLegacy 11 legacy; expected = false }
+    ∷ record { found = liveLegacy 3 (stateOf false true 0); expected = false }
     ∷ []
