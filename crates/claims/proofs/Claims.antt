@@ -1,7 +1,7 @@
 -- What the customer asks for, each with the words that ask for it. The definitions are in specs/; all else in proofs/ only helps to prove these.
 -- Of the state no theorem here assumes anything, but that of a second run, that the guest was run, and those of condition 3 and R1, that no live
--- guest in the slot is legacy: lengths, tables and records may be sound or damaged. Those of histories, which begin with fresh tables, are stated and proved in the crate history, proofs/History.antt, and passed on
--- from there.
+-- guest in the slot is legacy: lengths, tables and records may be sound or damaged. Those of histories, which begin with fresh tables, are stated
+-- and proved in the crate history, proofs/History.antt, and passed on from there.
 use mathlib.Core.Path.{_≡_, refl}
 use mathlib.Core.Logic.{_≢_}
 use mathlib.Core.Bool.{Bool, true, false}
