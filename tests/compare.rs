@@ -8,9 +8,11 @@
 mod clundip;
 mod generate;
 mod model;
+mod rows;
 
 use generate::{Random, SORTS, Sort};
 use model::{Call, Memory, Outcome, RECORD};
+use rows::Coverage;
 use std::fmt::{LowerHex, Write};
 use std::panic::{AssertUnwindSafe, catch_unwind};
 use std::process::ExitCode;
@@ -58,7 +60,8 @@ fn perform(lent: &mut Lent, call: Call) -> Outcome {
     let map = within_margins(&mut lent.map);
     let mut part = [0, 0];
     let answer = match call {
-        Call::Create => clundip::create(records, frames, map),
+        Call::Create { legacy: false } => clundip::create(records, frames, map),
+        Call::Create { legacy: true } => clundip::create_legacy(records, frames, map),
         Call::Donate { slot, frame, granule } => {
             clundip::donate(records, frames, map, slot, frame, granule)
         }
@@ -105,6 +108,7 @@ struct Tally {
     done: u64,
     not_supported: u64,
     invalid_parameter: u64,
+    coverage: Coverage,
 }
 
 impl Tally {
@@ -139,16 +143,17 @@ impl Tally {
             "verdict 10 with another R0: {}",
             returned.iter().sum::<u64>() - named
         );
+        self.coverage.print();
     }
 
-    /// Prints the verdicts that did not come, and says how many.
+    /// Prints the verdicts and rows that did not come, and says how many.
     fn missing(&self) -> usize {
         let missing = |verdict: &usize| self.verdicts[*verdict] == [0; SORTS.len()];
         let missing: Vec<usize> = (0..self.verdicts.len()).filter(missing).collect();
         for verdict in &missing {
             println!("verdict {verdict} did not come");
         }
-        missing.len()
+        missing.len() + self.coverage.missing(false)
     }
 }
 
@@ -179,6 +184,7 @@ fn compare(
             }));
         }
         tally.count(sort, model.answer);
+        tally.coverage.note(&before, call, model.answer);
     }
     Ok(())
 }

@@ -1,6 +1,6 @@
 //! Random tables, records and calls, drawn so that every verdict comes often.
 
-use crate::model::{Call, Memory, RECORD, SLOT_CALLS, perform};
+use crate::model::{BITMAPS, Call, Memory, RECORD, SLOT_CALLS, perform};
 
 const SLOTS: u64 = 8;
 const GRANULE_BYTES: u64 = 4096;
@@ -25,7 +25,7 @@ const UNKNOWN: [u64; 14] = [
 ];
 
 const ODD_FLAGS: [u64; 6] = [2, 7, 1 << 31, 1 << 32, 1 << 63, u64::MAX];
-const BITMAPS: [u64; 8] = [0, 0, 1, 1, 2, 3, 1 << 32, u64::MAX];
+const BITMAP_VALUES: [u64; 8] = [0, 0, 1, 1, 2, 3, 1 << 32, u64::MAX];
 
 /// A small generator of random numbers (splitmix64).
 pub struct Random(u64);
@@ -128,7 +128,8 @@ fn row_width(memory: &Memory) -> u64 {
 fn sound(random: &mut Random) -> Memory {
     let mut memory = fresh(random);
     for slot in 0..random.pick(&[1, 1, 2, 3, 5, 8]) {
-        perform(&mut memory, Call::Create);
+        let legacy = random.one_in(2);
+        perform(&mut memory, Call::Create { legacy });
         if random.one_in(4) {
             let (reg, value) = (2, 0);
             perform(&mut memory, Call::RegisterWrite { slot, reg, value });
@@ -200,8 +201,9 @@ fn nearly_sound(random: &mut Random) -> Memory {
             }
             6 => change_flag(random, &mut memory),
             _ => {
-                let bitmap = random.below(SLOTS) as usize * RECORD + random.within(3, 5) as usize;
-                memory.records[bitmap] = random.pick(&BITMAPS);
+                let record = random.below(SLOTS) as usize * RECORD;
+                let bitmap = record + BITMAPS + random.below(3) as usize;
+                memory.records[bitmap] = random.pick(&BITMAP_VALUES);
             }
         }
     }
@@ -238,7 +240,7 @@ fn near(random: &mut Random, word: u32) -> u32 {
 
 /// A flag that is set becomes an odd word, or one that is clear is set.
 fn change_flag(random: &mut Random, memory: &mut Memory) {
-    let flag = random.below(SLOTS) as usize * RECORD + random.below(3) as usize;
+    let flag = random.below(SLOTS) as usize * RECORD + random.below(BITMAPS as u64) as usize;
     memory.records[flag] = random.pick(&ODD_FLAGS);
 }
 
@@ -336,15 +338,15 @@ fn frame_word(random: &mut Random, width: u64) -> u32 {
 fn damage_records(random: &mut Random, memory: &mut Memory) {
     let all_live = random.one_in(6);
     for record in memory.records.chunks_mut(RECORD) {
-        for flag in &mut record[..3] {
+        for flag in &mut record[..BITMAPS] {
             *flag = match random.below(3) {
                 0 => 0,
                 1 => 1,
                 _ => random.pick(&ODD_FLAGS),
             };
         }
-        for bitmap in &mut record[3..] {
-            *bitmap = random.pick(&BITMAPS);
+        for bitmap in &mut record[BITMAPS..] {
+            *bitmap = random.pick(&BITMAP_VALUES);
         }
         if all_live && record[0] == 0 {
             record[0] = random.pick(&[1, 7]);
@@ -381,11 +383,12 @@ fn wrongly_sized(random: &mut Random) -> Memory {
 pub fn call(random: &mut Random, memory: &Memory) -> Call {
     let slot = slot(random, |slot| is_live(memory, slot));
     let none_live = (0..SLOTS as usize).all(|slot| !is_live(memory, slot));
+    let legacy = random.one_in(2);
     if none_live && random.one_in(2) {
-        return Call::Create;
+        return Call::Create { legacy };
     }
     match random.below(100) {
-        0..=6 => Call::Create,
+        0..=6 => Call::Create { legacy },
         7..=17 => donate(random, memory, slot),
         18..=29 => random.pick(&SLOT_CALLS)(slot),
         30..=36 => {
@@ -420,8 +423,12 @@ fn is_live(memory: &Memory, slot: usize) -> bool {
     memory.records[slot * RECORD] != 0
 }
 
+fn is_legacy(memory: &Memory, slot: usize) -> bool {
+    memory.records[slot * RECORD + 1] != 0
+}
+
 fn is_run(memory: &Memory, slot: usize) -> bool {
-    is_live(memory, slot) && memory.records[slot * RECORD + 1] != 0
+    is_live(memory, slot) && memory.records[slot * RECORD + 2] != 0
 }
 
 /// Mostly the slot of a guest that was run, with a word of this kind in its
@@ -442,7 +449,7 @@ fn register_write(random: &mut Random, memory: &Memory) -> Call {
         is_live(memory, slot) && is_run(memory, slot) == run
     });
     let reg = register(random);
-    let value = random.pick(&BITMAPS);
+    let value = random.pick(&BITMAP_VALUES);
     Call::RegisterWrite { slot, reg, value }
 }
 
@@ -530,7 +537,8 @@ fn hypercall(random: &mut Random, memory: &Memory) -> Call {
     let upper = random.pick(&[0, 0, 1 << 32, upper]);
     let mut registers = [function + upper, base, count, 0];
     if !random.one_in(8) {
-        registers[zero_from(function)..].fill(0);
+        let legacy = is_legacy(memory, (slot % SLOTS) as usize);
+        registers[zero_from(function, legacy)..].fill(0);
     }
     if random.one_in(12) {
         registers[3] = random.pick(&[1, 1 << 32, u64::MAX]);
@@ -549,9 +557,10 @@ fn kind_needed(function: u64) -> u32 {
 }
 
 /// The first of the registers that must be zero.
-fn zero_from(function: u64) -> usize {
+fn zero_from(function: u64, legacy: bool) -> usize {
     match function {
         0xC600_0002 | 0xC600_0005 => 1,
+        0xC600_0003 | 0xC600_0004 | 0xC600_0007 if legacy => 2,
         0xC600_0009 => 2,
         0xC600_0003 | 0xC600_0004 => 3,
         _ => 4,

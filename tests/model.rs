@@ -1,11 +1,13 @@
-//! A plain model of document 01 over the words that the library is lent.
+//! A plain model of document 01, with legacy guests (Wish 1 of document 02),
+//! over the words that the library is lent.
 //!
 //! It is written for obviousness: words become enums, the tests of a call stand
 //! in the order of the verdict table, and granules change one at a time.
 
 pub const SLOTS: usize = 8;
-/// The words of a record.
-pub const RECORD: usize = 6;
+/// The words of a record, and the first of its bitmaps, behind the flags.
+pub const RECORD: usize = 7;
+pub const BITMAPS: usize = 4;
 const GRANULE_BYTES: u64 = 4096;
 
 /// The limits and first values of STD, STD_HYP and VENDOR_HYP.
@@ -22,6 +24,9 @@ const PRIVATE: u32 = 0x4000_0000;
 const SHARED: u32 = 0x8000_0000;
 const GUARDED: u32 = 0xC000_0000;
 
+/// The answer with the published UID.
+const UID: Answer = [10, 0xB66F_B428, 0xE911_C52E, 0x564B_CAA9, 0x743A_004D];
+
 const HOST: u32 = 0;
 const WAITING: u32 = 0xFF00_0000;
 
@@ -37,7 +42,7 @@ pub struct Memory {
 #[rustfmt::skip]
 #[derive(Clone, Copy, Debug)]
 pub enum Call {
-    Create,
+    Create { legacy: bool },
     Donate { slot: u64, frame: u64, granule: u64 },
     Run { slot: u64 },
     Remove { slot: u64 },
@@ -95,6 +100,7 @@ fn guest_refused(r0: i64) -> Answer {
 #[derive(Clone, Copy, PartialEq)]
 struct Guest {
     live: bool,
+    legacy: bool,
     run: bool,
     enrolled: bool,
     bitmaps: [u64; 3],
@@ -160,21 +166,12 @@ enum Change {
     Relinquish,
 }
 
-impl Change {
-    fn error(self) -> i64 {
-        match self {
-            Change::Share | Change::Unshare | Change::Relinquish => IP,
-            Change::GuardMap | Change::GuardUnmap => NS,
-        }
-    }
-}
-
 /// Performs a call on the memory.
 #[rustfmt::skip]
 pub fn perform(memory: &mut Memory, call: Call) -> Outcome {
     let mut part = [0, 0];
     let (Ok(answer) | Err(answer)) = match call {
-        Call::Create => memory.create(),
+        Call::Create { legacy } => memory.create(legacy),
         Call::Donate { slot, frame, granule } => memory.donate(slot, frame, granule),
         Call::Run { slot } => memory.run(slot),
         Call::Remove { slot } => memory.remove(slot),
@@ -200,18 +197,20 @@ impl Memory {
         let words = &self.records[slot * RECORD..][..RECORD];
         Guest {
             live: words[0] != 0,
-            run: words[1] != 0,
-            enrolled: words[2] != 0,
-            bitmaps: [words[3], words[4], words[5]],
+            legacy: words[1] != 0,
+            run: words[2] != 0,
+            enrolled: words[3] != 0,
+            bitmaps: [words[4], words[5], words[6]],
         }
     }
 
-    /// Writes the six words, but only if the flags or bitmaps change.
+    /// Writes the seven words, but only if the flags or bitmaps change.
     fn set_guest(&mut self, slot: usize, guest: Guest) {
         if guest != self.guest(slot) {
+            let flags = [guest.live, guest.legacy, guest.run, guest.enrolled];
             let words = &mut self.records[slot * RECORD..][..RECORD];
-            words[..3].copy_from_slice(&[guest.live, guest.run, guest.enrolled].map(u64::from));
-            words[3..].copy_from_slice(&guest.bitmaps);
+            words[..BITMAPS].copy_from_slice(&flags.map(u64::from));
+            words[BITMAPS..].copy_from_slice(&guest.bitmaps);
         }
     }
 
@@ -274,7 +273,8 @@ impl Memory {
 
 /// Host calls.
 impl Memory {
-    fn create(&mut self) -> Tested<Answer> {
+    /// A legacy guest "counts as enrolled from creation".
+    fn create(&mut self, legacy: bool) -> Tested<Answer> {
         self.test_tables()?;
         let free = (0..SLOTS).find(|&slot| !self.guest(slot).live);
         // With all eight live there is no row to look at, so 6 can't be meant.
@@ -283,8 +283,9 @@ impl Memory {
         test(row.iter().all(|&word| word == VACANT), verdict(6))?;
         let guest = Guest {
             live: true,
+            legacy,
             run: false,
-            enrolled: false,
+            enrolled: legacy,
             bitmaps: LIMITS,
         };
         self.set_guest(slot, guest);
@@ -383,36 +384,70 @@ impl Memory {
     fn hypercall(&mut self, slot: u64, registers: [u64; 4]) -> Tested<Answer> {
         self.test_tables()?;
         let slot = self.run_slot(slot)?;
+        match self.guest(slot).legacy {
+            true => self.legacy_call(slot, registers),
+            false => self.ranged_call(slot, registers),
+        }
+    }
+
+    /// The table of document 01.
+    fn ranged_call(&mut self, slot: usize, registers: [u64; 4]) -> Tested<Answer> {
         let guest = self.guest(slot);
         test_registers(guest, registers)?;
         let [r0, base, count, _] = registers;
         match r0 as u32 {
             0x8600_0000 => Ok([10, 0xFFD, 0, 0, 0]),
-            0x8600_FF01 => Ok([10, 0xB66F_B428, 0xE911_C52E, 0x564B_CAA9, 0x743A_004D]),
+            0x8600_FF01 => Ok(UID),
             0xC600_0002 | 0xC600_0005 => Ok([10, 4096, 1, 0, 0]),
             // "Count 0 means 1 for share and unshare."
-            0xC600_0003 => self.range(slot, Change::Share, base, count.max(1)),
-            0xC600_0004 => self.range(slot, Change::Unshare, base, count.max(1)),
+            0xC600_0003 => self.range(slot, Change::Share, base, count.max(1), IP),
+            0xC600_0004 => self.range(slot, Change::Unshare, base, count.max(1), IP),
             0xC600_0006 => {
                 let enrolled = true;
                 self.set_guest(slot, Guest { enrolled, ..guest });
                 Ok([10, 0, 0, 0, 0])
             }
-            0xC600_0007 => self.single(slot, Change::GuardMap, base),
-            0xC600_0008 => self.single(slot, Change::GuardUnmap, base),
-            0xC600_0009 => self.single(slot, Change::Relinquish, base),
-            0xC600_000A => self.range(slot, Change::GuardMap, base, count),
-            0xC600_000B => self.range(slot, Change::GuardUnmap, base, count),
+            0xC600_0007 => self.single(slot, Change::GuardMap, base, NS),
+            0xC600_0008 => self.single(slot, Change::GuardUnmap, base, NS),
+            0xC600_0009 => self.single(slot, Change::Relinquish, base, IP),
+            0xC600_000A => self.range(slot, Change::GuardMap, base, count, NS),
+            0xC600_000B => self.range(slot, Change::GuardUnmap, base, count, NS),
+            _ => Err(guest_refused(NS)),
+        }
+    }
+
+    /// The table of a guest that knows no ranges. "Calls 5, 6, 8, 10 and 11
+    /// answer −1; features answers 0x29D."
+    fn legacy_call(&mut self, slot: usize, [r0, r1, r2, r3]: [u64; 4]) -> Tested<Answer> {
+        let vendor = self.guest(slot).bitmaps[2] & 1 == 1;
+        let all_zero = [r1, r2, r3] == [0, 0, 0];
+        let one_granule = r1 % GRANULE_BYTES == 0 && [r2, r3] == [0, 0];
+        match r0 as u32 {
+            0x8600_0000 if vendor => Ok([10, 0x29D, 0, 0, 0]),
+            0x8600_FF01 if vendor => Ok(UID),
+            0xC600_0002 if all_zero => Ok([10, 4096, 0, 0, 0]),
+            0xC600_0003 if one_granule => self.single(slot, Change::Share, r1, IP),
+            0xC600_0004 if one_granule => self.single(slot, Change::Unshare, r1, IP),
+            0xC600_0007 if one_granule => self.single(slot, Change::GuardMap, r1, IP),
+            0xC600_0009 if one_granule => self.single(slot, Change::Relinquish, r1, IP),
+            0xC600_0002..=0xC600_0004 | 0xC600_0007 | 0xC600_0009 => Err(guest_refused(IP)),
             _ => Err(guest_refused(NS)),
         }
     }
 
     /// "Each stops after 64 granules, at the count, or before the first granule
     /// that can't be done." R1 is the number of granules changed.
-    fn range(&mut self, slot: usize, change: Change, base: u64, count: u64) -> Tested<Answer> {
+    fn range(
+        &mut self,
+        slot: usize,
+        change: Change,
+        base: u64,
+        count: u64,
+        error: i64,
+    ) -> Tested<Answer> {
         let mut changed = 0;
         while changed < 64 && changed < count {
-            match self.step(slot, change, base / GRANULE_BYTES + changed) {
+            match self.step(slot, change, base / GRANULE_BYTES + changed, error) {
                 Ok(()) => changed += 1,
                 Err(refusal) if changed == 0 => return Err(refusal),
                 Err(_) => break,
@@ -422,14 +457,14 @@ impl Memory {
     }
 
     /// A call of one granule, whose answer names no R1.
-    fn single(&mut self, slot: usize, change: Change, base: u64) -> Tested<Answer> {
-        self.step(slot, change, base / GRANULE_BYTES)?;
+    fn single(&mut self, slot: usize, change: Change, base: u64, error: i64) -> Tested<Answer> {
+        self.step(slot, change, base / GRANULE_BYTES, error)?;
         Ok([10, 0, 0, 0, 0])
     }
 
     /// One granule: it is below W, then not damaged, then of the kind needed.
-    fn step(&mut self, slot: usize, change: Change, granule: u64) -> Tested<()> {
-        let cannot_be_done = guest_refused(change.error());
+    fn step(&mut self, slot: usize, change: Change, granule: u64, error: i64) -> Tested<()> {
+        let cannot_be_done = guest_refused(error);
         test(granule < self.width() as u64, cannot_be_done)?;
         let granule = granule as usize;
         let word = slot * self.width() + granule;
@@ -472,7 +507,8 @@ impl Memory {
     }
 }
 
-/// "Registers, then enrolment, are tested before any granule."
+/// "Registers, then enrolment, are tested before any granule." These are a
+/// ranged guest's.
 fn test_registers(guest: Guest, [r0, r1, r2, r3]: [u64; 4]) -> Tested<()> {
     let vendor = guest.bitmaps[2] & 1 == 1;
     let zero = r1 == 0 && r2 == 0 && r3 == 0;

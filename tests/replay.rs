@@ -8,9 +8,11 @@
 #[allow(dead_code)] // tables that no replay can have
 mod generate;
 mod model;
+mod rows;
 
 use generate::Random;
 use model::{Call, Memory, RECORD, SLOTS};
+use rows::Coverage;
 use std::io::{self, Read};
 use std::os::fd::OwnedFd;
 use std::os::unix::net::UnixDatagram;
@@ -43,7 +45,7 @@ fn fresh() -> Memory {
 #[rustfmt::skip]
 fn record(call: Call, other: u8) -> Vec<u8> {
     let (kind, slot, arguments): (u8, u8, &[u64]) = match call {
-        Call::Create => (1, other, &[]),
+        Call::Create { legacy: false } => (1, other, &[]),
         Call::Donate { slot, frame, granule } => (2, slot_byte(slot), &[frame, granule]),
         Call::Run { slot } => (3, slot_byte(slot), &[]),
         Call::Hypercall { slot, ref registers } => (4, slot_byte(slot), registers),
@@ -53,6 +55,7 @@ fn record(call: Call, other: u8) -> Vec<u8> {
         Call::Access { frame } => (8, other, &[frame]),
         Call::RegisterRead { slot, reg } => (9, slot_byte(slot), &[reg]),
         Call::RegisterWrite { slot, reg, value } => (10, slot_byte(slot), &[reg, value]),
+        Call::Create { legacy: true } => (11, other, &[]),
         _ => return vec![],
     };
     let mut bytes = vec![0, 3 + 8 * arguments.len() as u8, 1, kind, slot];
@@ -88,7 +91,8 @@ fn log(random: &mut Random) -> Vec<u8> {
     let records = random.pick(&[0, 1, 4, 30, 300, 300, 5000]);
     let mut log = good_log(random, records);
     if random.within(0, 15) == 0 {
-        log.extend(record(Call::Create, 0).repeat(14_000));
+        let legacy = random.within(0, 1) == 1;
+        log.extend(record(Call::Create { legacy }, 0).repeat(14_000));
     }
     let place = random.within(0, log.len() as u64) as usize;
     match random.within(0, 7) {
@@ -109,7 +113,7 @@ fn header(random: &mut Random) -> [u8; 5] {
     let high = random.pick(&[0, 0, 0, 0, 1]);
     let low = random.pick(&[3, 3, 11, 11, 19, 19, 35, 35, 27, 0]);
     let version = random.pick(&[1, 1, 1, 1, 0, 2]);
-    let kind = random.pick(&[0, 0, 0, 11, 11, 11, 255, 1, 2, 3, 4, 5, 6, 7, 8, 9, 10]);
+    let kind = random.pick(&[0, 0, 0, 12, 12, 12, 255, 1, 2, 3, 4, 5, 6, 7, 8, 9, 10, 11]);
     [high, low, version, kind, 0]
 }
 
@@ -118,7 +122,7 @@ fn header(random: &mut Random) -> [u8; 5] {
 #[rustfmt::skip]
 fn front(bytes: &[u8]) -> Option<(Call, usize)> {
     let (&[high, low, version, kind, slot], rest) = bytes.split_first_chunk()?;
-    let arguments = [0, 2, 0, 4, 1, 0, 1, 1, 1, 2].get(usize::from(kind).checked_sub(1)?)?;
+    let arguments = [0, 2, 0, 4, 1, 0, 1, 1, 1, 2, 0].get(usize::from(kind).checked_sub(1)?)?;
     let size = 3 + 8 * arguments;
     if usize::from(high) * 256 + usize::from(low) != size || version != 1 {
         return None;
@@ -128,7 +132,7 @@ fn front(bytes: &[u8]) -> Option<(Call, usize)> {
     let slot = u64::from(slot);
     let mut next = || words.next().unwrap();
     let call = match kind {
-        1 => Call::Create,
+        1 => Call::Create { legacy: false },
         2 => Call::Donate { slot, frame: next(), granule: next() },
         3 => Call::Run { slot },
         4 => Call::Hypercall { slot, registers: [next(), next(), next(), next()] },
@@ -137,20 +141,22 @@ fn front(bytes: &[u8]) -> Option<(Call, usize)> {
         7 => Call::Cleared { frame: next() },
         8 => Call::Access { frame: next() },
         9 => Call::RegisterRead { slot, reg: next() },
-        _ => Call::RegisterWrite { slot, reg: next(), value: next() },
+        10 => Call::RegisterWrite { slot, reg: next(), value: next() },
+        _ => Call::Create { legacy: true },
     };
     Some((call, 2 + size))
 }
 
-/// How often verdicts came, and `bad`.
+/// How often verdicts came, and `bad`, and which rows.
 #[derive(Default)]
 struct Tally {
     verdicts: [u64; 14],
     bad: u64,
+    coverage: Coverage,
 }
 
 impl Tally {
-    /// Prints the verdicts that did not come, and `bad`, and says how many.
+    /// Prints the verdicts and rows that did not come, and `bad`, and says how many.
     fn missing(&self) -> usize {
         let missing = VERDICTS
             .iter()
@@ -162,7 +168,7 @@ impl Tally {
         for name in &missing {
             println!("{name} did not come");
         }
-        missing.len()
+        missing.len() + self.coverage.missing(true)
     }
 }
 
@@ -177,7 +183,10 @@ fn text(mut log: &[u8], tally: &mut Tally) -> String {
             text += "bad\n";
             break;
         };
-        let [verdict, v0, v1, v2, v3] = model::perform(&mut memory, call).answer;
+        let before = memory.clone();
+        let answer = model::perform(&mut memory, call).answer;
+        tally.coverage.note(&before, call, answer);
+        let [verdict, v0, v1, v2, v3] = answer;
         tally.verdicts[verdict as usize] += 1;
         text += &format!("{verdict} {v0} {v1} {v2} {v3}\n");
         answered += 1;
@@ -276,6 +285,7 @@ fn main() -> ExitCode {
         }
     }
     println!("verdict 0 to 13: {:?}; bad: {}", tally.verdicts, tally.bad);
+    tally.coverage.print();
     let missing = tally.missing();
     println!("{} passed, {missing} failed", logs + 1);
     if missing == 0 {
