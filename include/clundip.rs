@@ -4,6 +4,11 @@
 //! Use it with `#[path = "../include/clundip.rs"] mod clundip;` and name the
 //! directory of `libembed.a` to rustc with `-L`.
 //!
+//! `abi!` has the version of the layout of what is lent: it is to be raised with
+//! every change of a layout. The symbol of each call ends in `_abi` and this
+//! number, so a program that was compiled for another layout doesn't link; it
+//! would overrun its records without a word.
+//!
 //! Records and tables are all zero at first. Any contents and any numbers are
 //! answered, and a call that refuses changes no word.
 //!
@@ -14,12 +19,43 @@
 
 #![allow(dead_code)]
 
-/// Words of all records: eight of six words each, which are live, run,
-/// enrolled (flags) and STD, STD_HYP, VENDOR_HYP (bitmaps).
-pub const RECORD_WORDS: usize = 48;
+/// The version of the layout.
+macro_rules! abi {
+    () => {
+        2
+    };
+}
+
+/// The version of the layout.
+pub const ABI: u64 = abi!();
+
+/// Words of a record.
+pub const RECORD_WORDS: usize = 7;
+
+/// Words of all records: eight of [`RECORD_WORDS`].
+pub const ALL_RECORDS_WORDS: usize = 8 * RECORD_WORDS;
 
 /// The guest records, slot 0 first.
-pub type Records = [u64; RECORD_WORDS];
+pub type Records = [u64; ALL_RECORDS_WORDS];
+
+/// Order in a record: slot v's begins at `records[v * RECORD_WORDS]`. A flag
+/// counts as set if it is not 0.
+pub mod record {
+    /// Flag.
+    pub const LIVE: usize = 0;
+    /// Flag: a guest that knows no ranges.
+    pub const LEGACY: usize = 1;
+    /// Flag.
+    pub const RUN: usize = 2;
+    /// Flag.
+    pub const ENROLLED: usize = 3;
+    /// Bitmap.
+    pub const STD: usize = 4;
+    /// Bitmap.
+    pub const STD_HYP: usize = 5;
+    /// Bitmap.
+    pub const VENDOR_HYP: usize = 6;
+}
 
 /// What a call answers: a verdict, and values that the verdict gives a meaning.
 /// Its five words in this order are what the library writes.
@@ -66,7 +102,8 @@ pub mod verdict {
 }
 
 /// Guest function numbers: the low 32 bits of R0. A base is an IPA in bytes,
-/// a count a number of granules.
+/// a count a number of granules. A legacy guest has no count and sends 0 in its
+/// place; calls that are not a legacy guest's answer -1 to it.
 pub mod function {
     pub const FEATURES: u64 = 0x8600_0000;
     pub const UID: u64 = 0x8600_FF01;
@@ -75,27 +112,55 @@ pub mod function {
     pub const SHARE: u64 = 0xC600_0003;
     /// R1 base, R2 count.
     pub const UNSHARE: u64 = 0xC600_0004;
+    /// Not a legacy guest's.
     pub const GUARD_INFO: u64 = 0xC600_0005;
+    /// Not a legacy guest's.
     pub const ENROLL: u64 = 0xC600_0006;
     /// R1 base.
     pub const GUARD_MAP: u64 = 0xC600_0007;
-    /// R1 base.
+    /// R1 base. Not a legacy guest's.
     pub const GUARD_UNMAP: u64 = 0xC600_0008;
     /// R1 base.
     pub const RELINQUISH: u64 = 0xC600_0009;
-    /// R1 base, R2 count.
+    /// R1 base, R2 count. Not a legacy guest's.
     pub const RANGE_GUARD_MAP: u64 = 0xC600_000A;
-    /// R1 base, R2 count.
+    /// R1 base, R2 count. Not a legacy guest's.
     pub const RANGE_GUARD_UNMAP: u64 = 0xC600_000B;
 }
+
+/// What features answers in R0 to a guest with ranges, a bit for each call.
+pub const FEATURES: u64 = 0xFFD;
+/// What it answers to a legacy guest.
+pub const FEATURES_LEGACY: u64 = 0x29D;
 
 /// What lent words hold before a call that writes them all; one that it did
 /// not write would show.
 const UNWRITTEN: u64 = 0x5555_5555_5555_5555;
 
-#[link(name = "embed", kind = "static")]
-unsafe extern "C" {
+/// Declares calls of the library, each with the version of the layout at the end
+/// of its symbol.
+macro_rules! calls {
+    ($(fn $name:ident($($argument:ident: $type:ty),* $(,)?);)*) => {
+        #[link(name = "embed", kind = "static")]
+        unsafe extern "C" {
+            $(
+                #[link_name = concat!(stringify!($name), "_abi", abi!())]
+                fn $name($($argument: $type),*);
+            )*
+        }
+    };
+}
+
+calls! {
     fn clundip_create(
+        records: *mut Records,
+        frames: *mut u32,
+        frame_words: usize,
+        map: *mut u32,
+        map_words: usize,
+        answer: *mut Answer,
+    );
+    fn clundip_create_legacy(
         records: *mut Records,
         frames: *mut u32,
         frame_words: usize,
@@ -197,11 +262,26 @@ fn answered(call: impl FnOnce(&mut Answer)) -> Answer {
     answer
 }
 
-/// Makes a guest in the lowest slot that isn't live. v0 is the slot.
-/// Verdicts 0, 1, 6, 7.
+/// Makes a guest in the lowest slot that isn't live, one that knows ranges. v0
+/// is the slot. Verdicts 0, 1, 6, 7.
 pub fn create(records: &mut Records, frames: &mut [u32], map: &mut [u32]) -> Answer {
     answered(|answer| unsafe {
         clundip_create(
+            records,
+            frames.as_mut_ptr(),
+            frames.len(),
+            map.as_mut_ptr(),
+            map.len(),
+            answer,
+        )
+    })
+}
+
+/// The same for a legacy guest, which knows no ranges and counts as enrolled
+/// from its creation. Verdicts 0, 1, 6, 7.
+pub fn create_legacy(records: &mut Records, frames: &mut [u32], map: &mut [u32]) -> Answer {
+    answered(|answer| unsafe {
+        clundip_create_legacy(
             records,
             frames.as_mut_ptr(),
             frames.len(),
@@ -311,7 +391,10 @@ pub fn register_write(records: &mut Records, slot: u64, reg: u64, value: u64) ->
     answered(|answer| unsafe { clundip_register_write(records, slot, reg, value, answer) })
 }
 
-/// A hypercall of the guest with its registers R0 to R3. Verdicts 1, 2, 3, 6, 10.
+/// A hypercall of the guest with its registers R0 to R3. Where share, unshare
+/// and the range guard calls are done, v1 is the number of granules changed, 1 to
+/// 64; a legacy guest's share and unshare change one, and v1 is 0.
+/// Verdicts 1, 2, 3, 6, 10.
 pub fn hypercall(
     records: &mut Records,
     frames: &mut [u32],
