@@ -9,6 +9,7 @@ void odd_word_cases(void);
 void show_cases(void);
 void damage_cases(void);
 void guest_call_cases(void);
+void legacy_cases(void);
 void host_call_cases(void);
 void length_cases(void);
 void slot_cases(void);

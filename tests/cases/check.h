@@ -93,6 +93,7 @@ void prepare(const char *call, size_t count, const uint64_t *numbers);
 /* lent.c: the calls, with what is lent. */
 
 void call_create(void);
+void call_create_legacy(void);
 void call_donate(uint64_t slot, uint64_t frame, uint64_t granule);
 void call_run(uint64_t slot);
 void call_remove(uint64_t slot);
@@ -122,6 +123,7 @@ void becomes_waiting(uint64_t slot, uint64_t granule, uint64_t frame); /* the gr
 /* setup.c: calls that are done, the way in which cases are set up. */
 
 void create(uint64_t slot);
+void create_legacy(uint64_t slot);
 void create_all(void);
 void donate(uint64_t slot, uint64_t frame, uint64_t granule);
 void run(uint64_t slot);
@@ -138,6 +140,8 @@ void bench_not_run(void);
 void bench(void);
 void bench_enrolled(void);
 void bench_shared(void);
+void legacy_not_run(void); /* the same bench with a legacy guest */
+void legacy(void);
 
 /* setup.c: every call, made for one slot, with numbers that the bench has; and what it needs. */
 
@@ -149,7 +153,7 @@ enum {
     WORDS = 16, /* undamaged words */
 };
 
-enum { CALLS = 12 };
+enum { CALLS = 13 };
 
 extern const struct call {
     const char *name;

@@ -37,13 +37,30 @@ static void enrolled_flag(uint64_t flag)
     RETURNS(guest(CLUNDIP_FUNCTION_ENROLL, 0, 0, 0), 0, 0);
 }
 
+static void legacy_flag(uint64_t flag)
+{
+    put_record_word(0, CLUNDIP_RECORD_LEGACY, flag);
+    RETURNS(guest(CLUNDIP_FUNCTION_FEATURES, 0, 0, 0), 0x29D, 0);
+    RETURNS(guest(CLUNDIP_FUNCTION_ENROLL, 0, 0, 0), NS, 0);
+    RETURNS(share(0x5000, 1), IP, 0);
+    becomes_shared(0, 5, 3);
+    RETURNS(share(0x5000, 0), 0, 0);
+    guard_granule(6);
+    EXPECT(call_abort(0, 0x7000), 11, 0x7000); /* not enrolled as lent */
+}
+
 void flag_cases(void)
 {
     static const struct {
         const char *name;
         void (*before)(void);
         void (*body)(uint64_t flag);
-    } rows[] = {{"live", bench, live_flag}, {"run", bench_not_run, run_flag}, {"enrolled", bench, enrolled_flag}};
+    } rows[] = {
+        {"live", bench, live_flag},
+        {"legacy", bench, legacy_flag},
+        {"run", bench_not_run, run_flag},
+        {"enrolled", bench, enrolled_flag},
+    };
     static const uint64_t flags[] = {2, 256, BIT(32), BIT(63), UINT64_MAX};
 
     for (size_t i = 0; i < COUNT(rows); i++)

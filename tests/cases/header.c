@@ -14,13 +14,29 @@ struct constant {
 #define NAME(name) "CLUNDIP_" #name, CLUNDIP_##name
 
 static const struct constant bounds_and_orders[] = {
-    {NAME(SLOTS), 8},           {NAME(GRANULE_SIZE), 4096}, {NAME(MAX_FRAMES), 16384},  {NAME(MAX_GRANULES), 4096},
-    {NAME(ANSWER_WORDS), 5},    {NAME(PART_WORDS), 2},      {NAME(RECORD_LIVE), 0},     {NAME(RECORD_RUN), 1},
-    {NAME(RECORD_ENROLLED), 2}, {NAME(RECORD_STD), 3},      {NAME(RECORD_STD_HYP), 4},  {NAME(RECORD_VENDOR_HYP), 5},
-    {NAME(ANSWER_VERDICT), 0},  {NAME(ANSWER_V0), 1},       {NAME(ANSWER_V1), 2},       {NAME(ANSWER_V2), 3},
-    {NAME(ANSWER_V3), 4},       {NAME(PART_BEGIN), 0},      {NAME(PART_LENGTH), 1},
-    /* Another number of words in a record would move those of slots 1 to 7, which other cases look at. */
-    {NAME(ALL_RECORDS_WORDS), CLUNDIP_SLOTS * CLUNDIP_RECORD_WORDS},
+    {NAME(ABI), 2},
+    {NAME(SLOTS), 8},
+    {NAME(GRANULE_SIZE), 4096},
+    {NAME(MAX_FRAMES), 16384},
+    {NAME(MAX_GRANULES), 4096},
+    {NAME(RECORD_WORDS), 7},
+    {NAME(ALL_RECORDS_WORDS), 56},
+    {NAME(ANSWER_WORDS), 5},
+    {NAME(PART_WORDS), 2},
+    {NAME(RECORD_LIVE), 0},
+    {NAME(RECORD_LEGACY), 1},
+    {NAME(RECORD_RUN), 2},
+    {NAME(RECORD_ENROLLED), 3},
+    {NAME(RECORD_STD), 4},
+    {NAME(RECORD_STD_HYP), 5},
+    {NAME(RECORD_VENDOR_HYP), 6},
+    {NAME(ANSWER_VERDICT), 0},
+    {NAME(ANSWER_V0), 1},
+    {NAME(ANSWER_V1), 2},
+    {NAME(ANSWER_V2), 3},
+    {NAME(ANSWER_V3), 4},
+    {NAME(PART_BEGIN), 0},
+    {NAME(PART_LENGTH), 1},
 };
 
 static const struct constant verdicts_and_errors[] = {
@@ -58,6 +74,8 @@ static const struct constant functions_registers_words[] = {
     {NAME(FUNCTION_RELINQUISH), 0xC6000009},
     {NAME(FUNCTION_RANGE_GUARD_MAP), 0xC600000A},
     {NAME(FUNCTION_RANGE_GUARD_UNMAP), 0xC600000B},
+    {NAME(FEATURES), 0xFFD},
+    {NAME(FEATURES_LEGACY), 0x29D},
     {NAME(REGISTER_STD), 0},
     {NAME(REGISTER_STD_HYP), 1},
     {NAME(REGISTER_VENDOR_HYP), 2},

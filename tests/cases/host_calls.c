@@ -33,6 +33,7 @@ static void guests(void)
     begin_case(fresh, "create takes the lowest slot");
     create_all();
     REFUSED(call_create(), 7);
+    REFUSED(call_create_legacy(), 7);
     remove_guest(3, 0);
     create(3);
 

@@ -20,6 +20,12 @@ void call_create(void)
     clundip_create(lent.records, lent_frames(), frame_words, lent_map(), map_words, lent.answer);
 }
 
+void call_create_legacy(void)
+{
+    prepare("create_legacy", 0, NULL);
+    clundip_create_legacy(lent.records, lent_frames(), frame_words, lent_map(), map_words, lent.answer);
+}
+
 void call_donate(uint64_t slot, uint64_t frame, uint64_t granule)
 {
     PREPARE("donate", slot, frame, granule);

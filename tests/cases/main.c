@@ -12,6 +12,7 @@ int main(void)
     show_cases();
     damage_cases();
     guest_call_cases();
+    legacy_cases();
     host_call_cases();
     length_cases();
     slot_cases();

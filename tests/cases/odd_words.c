@@ -3,17 +3,19 @@
 #include "check.h"
 
 /*
- * F = 256 and W = 64 with no word that a call could have left: even slots are live and odd ones dead, each record word
- * is different, and every table word is damaged.
+ * F = 256 and W = 64 with no word that a call could have left: even slots are live and odd ones dead, slot 2 has ranges
+ * and the others are legacy, each record word is different, and every table word is damaged.
  */
 static void odd_words(void)
 {
     fresh();
     for (uint64_t slot = 0; slot < 8; slot++) {
-        for (uint64_t word = 0; word < 6; word++)
+        for (uint64_t word = 0; word < CLUNDIP_RECORD_WORDS; word++)
             put_record_word(slot, word, BIT(63) + BIT(32) + 256 * slot + 2 * word);
         if (slot % 2)
             put_record_word(slot, CLUNDIP_RECORD_LIVE, 0);
+        if (slot == 2)
+            put_record_word(slot, CLUNDIP_RECORD_LEGACY, 0);
         for (uint64_t granule = 0; granule < 64; granule++)
             put_map(slot, granule, (uint32_t)(0x00100000 + 256 * slot + granule));
     }
@@ -65,6 +67,7 @@ static void refused_with_6_to_9(void)
     for (uint64_t slot = 0; slot < 8; slot++)
         put_record_word(slot, CLUNDIP_RECORD_LIVE, BIT(63) + slot);
     REFUSED(call_create(), 7);
+    REFUSED(call_create_legacy(), 7);
 
     begin_case(odd_words, "odd words stay: refused with 8");
     put_frame(3, 0);
@@ -89,6 +92,8 @@ static void nothing_to_change(void)
     RETURNS(call_hypercall(2, CLUNDIP_FUNCTION_GUARD_UNMAP, 0x6000, 0, 0), NS, 0);
     RETURNS(call_hypercall(2, CLUNDIP_FUNCTION_RANGE_GUARD_MAP, 0x5000, 0, 0), NS, 0);
     RETURNS(call_hypercall(2, UINT64_C(0xC600000C), 0x5000, 1, 0), NS, 0);
+    RETURNS(call_hypercall(4, CLUNDIP_FUNCTION_SHARE, 0x5000, 1, 0), IP, 0);
+    RETURNS(call_hypercall(4, CLUNDIP_FUNCTION_ENROLL, 0, 0, 0), NS, 0);
 
     begin_case(odd_words, "odd words stay: calls that only look");
     DONE(call_show(6, 6 * 64, 64));
@@ -98,7 +103,8 @@ static void nothing_to_change(void)
     EXPECT(call_abort(6, 0x6000), 12, 0);
     put_frame(3, 0);
     EXPECT(call_access(3), 0, 1);
-    RETURNS(call_hypercall(6, CLUNDIP_FUNCTION_MEMORY_INFO, 0, 0, 0), 4096, 1);
+    RETURNS(call_hypercall(2, CLUNDIP_FUNCTION_MEMORY_INFO, 0, 0, 0), 4096, 1);
+    RETURNS(call_hypercall(6, CLUNDIP_FUNCTION_MEMORY_INFO, 0, 0, 0), 4096, 0);
 
     begin_case(odd_words, "odd words stay: calls done again");
     DONE(call_run(2));
@@ -112,6 +118,8 @@ static void flags_become_1(uint64_t slot)
 {
     for (uint64_t word = CLUNDIP_RECORD_LIVE; word <= CLUNDIP_RECORD_ENROLLED; word++)
         record_word_becomes(slot, word, 1);
+    if (slot == 2)
+        record_word_becomes(slot, CLUNDIP_RECORD_LEGACY, 0);
 }
 
 /* A call that is done and changes a record writes that record alone. Neighbours and tables hold odd words. */
@@ -121,10 +129,19 @@ static void one_record(void)
     put_row_vacant(1);
     create(1);
 
+    begin_case(odd_words, "create legacy writes one record");
+    put_row_vacant(1);
+    create_legacy(1);
+
     begin_case(odd_words, "run writes one record");
     put_record_word(2, CLUNDIP_RECORD_RUN, 0);
     flags_become_1(2);
     DONE(call_run(2));
+
+    begin_case(odd_words, "run writes one record, of a legacy guest");
+    put_record_word(4, CLUNDIP_RECORD_RUN, 0);
+    flags_become_1(4);
+    DONE(call_run(4));
 
     begin_case(odd_words, "enroll writes one record");
     put_record_word(2, CLUNDIP_RECORD_ENROLLED, 0);
@@ -169,10 +186,11 @@ static void odd_records(void)
 {
     begin_case(bench, "a record that isn't live counts as dead");
     put_record_word(0, CLUNDIP_RECORD_LIVE, 0);
-    for (uint64_t word = 1; word < 6; word++)
+    for (uint64_t word = 1; word < CLUNDIP_RECORD_WORDS; word++)
         put_record_word(0, word, BIT(63) + word);
     calls_refuse(SLOT, 0, 2);
     REFUSED(call_create(), 6);
+    REFUSED(call_create_legacy(), 6);
     put_map(0, 5, 0);
     create(0);
 

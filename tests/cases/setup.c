@@ -44,6 +44,14 @@ void create(uint64_t slot)
     EXPECT(call_create(), 0, slot);
 }
 
+void create_legacy(uint64_t slot)
+{
+    record_becomes(slot, 1, 0, 1);
+    record_word_becomes(slot, CLUNDIP_RECORD_LEGACY, 1);
+    record_word_becomes(slot, CLUNDIP_RECORD_ENROLLED, 1);
+    EXPECT(call_create_legacy(), 0, slot);
+}
+
 void create_all(void)
 {
     for (uint64_t slot = 0; slot < 8; slot++)
@@ -124,12 +132,31 @@ void bench_shared(void)
     share_granule_5(2);
 }
 
+void legacy_not_run(void)
+{
+    fresh();
+    create_legacy(0);
+    donate(0, 3, 5);
+}
+
+void legacy(void)
+{
+    legacy_not_run();
+    run(0);
+}
+
 /* Every call. */
 
 static void make_create(uint64_t slot)
 {
     (void)slot;
     call_create();
+}
+
+static void make_create_legacy(uint64_t slot)
+{
+    (void)slot;
+    call_create_legacy();
 }
 
 static void make_donate(uint64_t slot)
@@ -181,6 +208,7 @@ static void make_abort(uint64_t slot)
 
 const struct call calls[CALLS] = {
     {"create", make_create, FRAMES | MAP | WORDS},
+    {"create legacy", make_create_legacy, FRAMES | MAP | WORDS},
     {"donate", make_donate, FRAMES | MAP | SLOT | WORDS},
     {"run", call_run, SLOT},
     {"remove", call_remove, FRAMES | MAP | SLOT | WORDS},
