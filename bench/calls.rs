@@ -36,7 +36,7 @@ impl Lent {
     /// One live guest that was run and has enrolled, with this word in each place of its row.
     fn row_of(word: u32) -> Self {
         let mut lent = Self {
-            records: [0; clundip::RECORD_WORDS],
+            records: [0; clundip::ALL_RECORDS_WORDS],
             frames: vec![0; FRAMES as usize],
             map: vec![0; 8 * GRANULES as usize],
         };

@@ -1,26 +1,34 @@
-//! The calls of document 01 in ordinary Rust, on the same lent words as the library.
+//! The calls of document 01 in ordinary Rust, for guests with ranges and legacy guests, on the same lent words as
+//! the library.
 //! The benchmarks time the proved calls against these.
 //!
 //! Of a record that changes, run, enroll and register write set the one word that they are about; the library
 //! writes them all, with flags as 0 or 1. That shows only on flags that are neither.
 
-/// The words of one slot: three flags, then the bitmaps STD, STD_HYP and VENDOR_HYP.
-const RECORD: usize = 6;
+/// The words of one slot: four flags, then the bitmaps STD, STD_HYP and VENDOR_HYP.
+const RECORD: usize = 7;
 type Record = [u64; RECORD];
 const LIVE: usize = 0;
-pub const RUN: usize = 1;
-pub const ENROLLED: usize = 2;
-const BITMAPS: usize = 3;
-const VENDOR_HYP: usize = 5;
+const LEGACY: usize = 1;
+pub const RUN: usize = 2;
+pub const ENROLLED: usize = 3;
+const BITMAPS: usize = 4;
+const VENDOR_HYP: usize = 6;
 pub const FRESH: Record = {
     let mut record = [0; RECORD];
     record[LIVE] = 1;
     record[VENDOR_HYP] = 1;
     record
 };
+const FRESH_LEGACY: Record = {
+    let mut record = FRESH;
+    record[LEGACY] = 1;
+    record[ENROLLED] = 1;
+    record
+};
 
-pub const RECORD_WORDS: usize = SLOTS * RECORD;
-pub type Records = [u64; RECORD_WORDS];
+pub const ALL_RECORDS_WORDS: usize = SLOTS * RECORD;
+pub type Records = [u64; ALL_RECORDS_WORDS];
 
 const BITMAP_LIMITS: [u64; 3] = [0, 0, 1];
 
@@ -205,6 +213,14 @@ fn row_mut(map: &mut [u32], width: usize, slot: usize) -> &mut [u32] {
 }
 
 pub fn create(records: &mut Records, frames: &[u32], map: &[u32]) -> Answer {
+    create_as(FRESH, records, frames, map)
+}
+
+pub fn create_legacy(records: &mut Records, frames: &[u32], map: &[u32]) -> Answer {
+    create_as(FRESH_LEGACY, records, frames, map)
+}
+
+fn create_as(record: Record, records: &mut Records, frames: &[u32], map: &[u32]) -> Answer {
     let Some(width) = row_width(frames, map) else {
         return Answer::verdict(BAD_LENGTH);
     };
@@ -218,7 +234,7 @@ pub fn create(records: &mut Records, frames: &[u32], map: &[u32]) -> Answer {
     {
         return Answer::verdict(DAMAGED);
     }
-    records[slot] = FRESH;
+    records[slot] = record;
     Answer::done(slot as u64)
 }
 
@@ -391,7 +407,10 @@ pub fn hypercall(
         row,
         frames,
     };
-    guest.call(registers)
+    match guest.record[LEGACY] {
+        0 => guest.call(registers),
+        _ => guest.legacy_call(registers),
+    }
 }
 
 /// The guest that calls, with what its call may change.
@@ -420,9 +439,26 @@ impl Guest<'_> {
             }
             0xC600_0007 => self.change_guard(r1, 1, guard_map).without_count(),
             0xC600_0008 => self.change_guard(r1, 1, guard_unmap).without_count(),
-            0xC600_0009 => self.relinquish(r1, r2, r3),
+            0xC600_0009 => self.change_one(r1, r2, r3, relinquish),
             0xC600_000A => self.change_guard(r1, r2, guard_map),
             0xC600_000B => self.change_guard(r1, r2, guard_unmap),
+            _ => Answer::to_guest(NOT_SUPPORTED, 0),
+        }
+    }
+
+    /// The calls of a guest that knows no ranges.
+    fn legacy_call(&mut self, [r0, r1, r2, r3]: [u64; 4]) -> Answer {
+        let vendor = self.record[VENDOR_HYP] & 1 != 0;
+        let all_zero = r1 == 0 && r2 == 0 && r3 == 0;
+        match r0 as u32 {
+            0x8600_0000 if vendor => Answer::to_guest(0x29D, 0),
+            0x8600_FF01 if vendor => Answer::new(RETURN, UID),
+            0xC600_0002 if all_zero => Answer::to_guest(GRANULE_BYTES, 0),
+            0xC600_0002 => Answer::to_guest(INVALID_PARAMETER, 0),
+            0xC600_0003 => self.change_one(r1, r2, r3, share),
+            0xC600_0004 => self.change_one(r1, r2, r3, unshare),
+            0xC600_0007 => self.change_one(r1, r2, r3, guard_map),
+            0xC600_0009 => self.change_one(r1, r2, r3, relinquish),
             _ => Answer::to_guest(NOT_SUPPORTED, 0),
         }
     }
@@ -441,11 +477,11 @@ impl Guest<'_> {
         self.change(base, count, NOT_SUPPORTED, step)
     }
 
-    fn relinquish(&mut self, base: u64, r2: u64, r3: u64) -> Answer {
+    fn change_one(&mut self, base: u64, r2: u64, r3: u64, step: impl Step) -> Answer {
         if !base.is_multiple_of(GRANULE_BYTES) || r2 != 0 || r3 != 0 {
             return Answer::to_guest(INVALID_PARAMETER, 0);
         }
-        self.change(base, 1, INVALID_PARAMETER, relinquish)
+        self.change(base, 1, INVALID_PARAMETER, step)
             .without_count()
     }
 

@@ -2,7 +2,7 @@
 
 mod plain;
 
-use plain::{Answer, RECORD_WORDS, Records};
+use plain::{ALL_RECORDS_WORDS, Answer, Records};
 use std::io::{self, ErrorKind, Read, Write};
 use std::process::ExitCode;
 
@@ -22,7 +22,7 @@ struct Monitor {
 impl Monitor {
     fn fresh() -> Self {
         Self {
-            records: [0; RECORD_WORDS],
+            records: [0; ALL_RECORDS_WORDS],
             frames: [0; FRAMES],
             map: [0; MAP_WORDS],
         }
@@ -50,6 +50,7 @@ impl Monitor {
             8 => plain::access(frames, map, argument(0)),
             9 => plain::register_read(records, slot, argument(0)),
             10 => plain::register_write(records, slot, argument(0), argument(1)),
+            11 => plain::create_legacy(records, frames, map),
             _ => unreachable!("no good record has kind {kind}"),
         }
     }
@@ -70,7 +71,7 @@ enum Front<'a> {
 /// The number of arguments of a kind.
 fn arguments_of(kind: u8) -> Option<usize> {
     match kind {
-        1 | 3 | 6 => Some(0),
+        1 | 3 | 6 | 11 => Some(0),
         5 | 7..=9 => Some(1),
         2 | 10 => Some(2),
         4 => Some(4),
@@ -106,7 +107,7 @@ fn short_front(bytes: &[u8]) -> Front<'_> {
         let header = arguments_of(kind).map(|count| [0, 3 + 8 * count as u8, 1, kind]);
         header.is_some_and(|header| header.starts_with(bytes))
     };
-    match (1..=10).any(begins) {
+    match (1..=11).any(begins) {
         true => Front::Unfinished,
         false => Front::Bad,
     }

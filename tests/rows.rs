@@ -118,13 +118,15 @@ const KINDS: [(&str, &[Row]); 2] = [("ranged", &RANGED), ("legacy", &LEGACY)];
 type Met = (&'static str, &'static str, Outcome);
 
 /// Whether it can come where tables and records are those of a history: no word
-/// is damaged then, and each legacy guest is enrolled.
-fn in_histories((kind, _, outcome): &Met) -> bool {
-    !match outcome {
-        Refused(Damaged) | Verdict(1) | Verdict(6) => true,
-        Passed(NotEnrolled) => *kind == "legacy",
-        _ => false,
-    }
+/// is damaged then, each legacy guest is enrolled, and so is each guest with a
+/// guarded granule.
+fn in_histories(met: &Met) -> bool {
+    !matches!(
+        met,
+        (_, _, Refused(Damaged) | Verdict(1) | Verdict(6))
+            | ("legacy", _, Passed(NotEnrolled))
+            | (_, "guard unmap" | "range guard unmap", Refused(NotEnrolled))
+    )
 }
 
 #[derive(Default)]

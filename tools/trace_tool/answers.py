@@ -43,6 +43,8 @@ def done(name: str, v0: int) -> str:
     match name:
         case "create":
             return f", slot {v0}"
+        case "create_legacy":
+            return f", legacy guest created in slot {v0}"
         case "remove":
             return f", {counted(v0, 'frame')} to be cleared"
         case "access":
@@ -56,6 +58,8 @@ def returned(function: str | None, r0: int, r1: int) -> str:
     if signed(r0) in GUEST_ERRORS:
         return GUEST_ERRORS[signed(r0)]
     match function:
+        case "share" | "unshare" if r1 == 0:  # one granule, which a legacy guest is not told
+            return f"{r0}, 1 granule done (legacy)"
         case "share" | "unshare" | "range_guard_map" | "range_guard_unmap":
             return f"{r0}, {counted(r1, 'granule')} done"
         case "memory_info" | "guard_info":

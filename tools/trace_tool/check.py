@@ -14,10 +14,19 @@ from trace_tool.text import KINDS, LAYOUTS, LENGTHS, VERSION, TextError, decode,
 SEED = 20
 RANDOM_TRACES = 2000
 EXAMPLE = ["create", "donate 0 3 5", "run 0", "hypercall 0 share 0x5000 1 0"]
+LEGACY = {  # calls, and the last words of their lines
+    "create_legacy": ("0 0 0 0 0", "done, legacy guest created in slot 0"),
+    "donate 0 3 5": ("0 0 0 0 0", "done"),
+    "run 0": ("0 0 0 0 0", "done"),
+    "hypercall 0 share 0x5000": ("10 0 0 0 0", "returns to the guest: 0, 1 granule done (legacy)"),
+    "hypercall 0 memory_info": ("10 4096 0 0 0", "returns to the guest: 4096, R1 = 0"),
+    "hypercall 0 features": ("10 669 0 0 0", "returns to the guest: features 0x29d"),
+}
 NO_EXAMPLES = ["empty.trace", "long.trace"]
 BAD_TEXT = {
     "create\n\nsing 0": "line 3: expected one of create, donate, ",
     "create 0": "line 1: expected create [slot=N]; found 'create 0'",
+    "create_legacy 0": "line 1: expected create_legacy [slot=N]; found 'create_legacy 0'",
     "donate 0 3 # 5": "line 1: expected donate SLOT FRAME GRANULE; found 'donate 0 3'",
     "run": "line 1: expected run SLOT; found 'run'",
     "run 256": "line 1: expected SLOT, a number from 0 to 255; found '256'",
@@ -69,6 +78,13 @@ def example_checks(examples: Path) -> Iterator[tuple[str, bool]]:
         yield f"{stem.name}: output fits the trace", not annotate(trace, out.decode())[1]
 
 
+def legacy_in_words() -> bool:
+    answers = [answer for answer, _ in LEGACY.values()]
+    lines, disagreements = annotate(encode("\n".join(LEGACY)), "\n".join(["monitor 1", *answers, f"end {len(LEGACY)}"]))
+    words = [f"{answer}  {words}" for answer, words in LEGACY.values()]
+    return not disagreements and all(line.endswith(end) for line, end in zip(lines, words))
+
+
 def gate_checks(root: Path) -> Iterator[tuple[str, bool]]:
     """The logs that the gate replays are the examples, to the byte."""
     examples, crates = root / "examples", root / "crates"
@@ -109,6 +125,7 @@ def checks(tool: Path, root: Path) -> Iterator[tuple[str, bool]]:
     rng = random.Random(SEED)
     yield f"{RANDOM_TRACES} random traces (seed {SEED}) are kept by decode and encode", all(
         round_trips(random_trace(rng)) for _ in range(RANDOM_TRACES))
+    yield "a legacy guest in words", legacy_in_words()
     for text, expected in BAD_TEXT.items():
         yield f"message for {text[:40]!r}", message(text).startswith(expected)
     yield from command_checks(tool, examples / "example.trace")

@@ -1,4 +1,4 @@
-"""The trace format of document 01, its text form, and the way from each to the other."""
+"""The trace format of document 01, with kind 11 of document 02, its text form, and the way from each to the other."""
 
 import re
 import struct
@@ -48,6 +48,7 @@ KINDS = (
     RecordKind(8, "access", False, ("FRAME",)),
     RecordKind(9, "register_read", True, ("REGISTER",)),
     RecordKind(10, "register_write", True, ("REGISTER", "VALUE")),
+    RecordKind(11, "create_legacy", False, ()),
 )
 FUNCTIONS = {
     "features": 0x86000000, "uid": 0x8600FF01, "memory_info": 0xC6000002, "share": 0xC6000003,
