@@ -13,6 +13,7 @@ struct constant {
 
 #define NAME(name) "CLUNDIP_" #name, CLUNDIP_##name
 
+/* Whoever changes the words of an area or their order here changes the layout, and raises CLUNDIP_ABI. */
 static const struct constant bounds_and_orders[] = {
     {NAME(ABI), 2},
     {NAME(SLOTS), 8},
