@@ -25,6 +25,14 @@ const CALLS: u64 = 400_000;
 const MARGIN: usize = 3;
 const MARGIN_WORD: u32 = 0xA5A5_A5A5;
 
+/// The names of a record's words in the module. Whoever changes them changes the
+/// layout, and raises its version.
+const _: () = {
+    use clundip::{ABI, RECORD_WORDS, record::*};
+    let order = [LIVE, LEGACY, RUN, ENROLLED, STD, STD_HYP, VENDOR_HYP];
+    assert!(ABI == 2 && RECORD_WORDS == RECORD && matches!(order, [0, 1, 2, 3, 4, 5, 6]));
+};
+
 /// A memory as it is lent to the library, with margins.
 #[derive(PartialEq)]
 struct Lent {
