@@ -13,7 +13,7 @@ use record_words::put_answer;
 
 // A frame of the host is given to a granule of the guest in a slot.
 #[no_mangle]
-pub extern "C" fn clundip_donate(
+pub extern "C" fn clundip_donate_abi2(
     records: &[u64; RECORD_WORDS],
     frames: &mut [u32],
     map: &mut [u32],
@@ -31,7 +31,7 @@ pub extern "C" fn clundip_donate(
 
 // A waiting frame was cleared, and is the host's.
 #[no_mangle]
-pub extern "C" fn clundip_cleared(
+pub extern "C" fn clundip_cleared_abi2(
     frames: &mut [u32],
     map: &[u32],
     frame: u64,
@@ -45,7 +45,12 @@ pub extern "C" fn clundip_cleared(
 
 // Whether the host may access a frame.
 #[no_mangle]
-pub extern "C" fn clundip_access(frames: &[u32], map: &[u32], frame: u64, answer: &mut [u64; 5])
+pub extern "C" fn clundip_access_abi2(
+    frames: &[u32],
+    map: &[u32],
+    frame: u64,
+    answer: &mut [u64; 5],
+)
     ensures { λ _. ⌜ ((records : List ℕ) → lent records (now (frames .entry)) (now (map .entry)) (now (answer .exit))
         ≡ lentAfter (hostAccessOf frame) records (now (frames .entry)) (now (map .entry))) ⌝ }
 {

@@ -13,7 +13,7 @@ use record_words::put_change;
 
 // A hypercall of the guest in a slot, with R0 to R3.
 #[no_mangle]
-pub extern "C" fn clundip_hypercall(
+pub extern "C" fn clundip_hypercall_abi2(
     records: &mut [u64; RECORD_WORDS],
     frames: &mut [u32],
     map: &mut [u32],
@@ -36,7 +36,7 @@ pub extern "C" fn clundip_hypercall(
 
 // An access of the guest in a slot that found no page.
 #[no_mangle]
-pub extern "C" fn clundip_abort(
+pub extern "C" fn clundip_abort_abi2(
     records: &[u64; RECORD_WORDS],
     frames: &[u32],
     map: &[u32],

@@ -12,7 +12,7 @@ use record_words::put_change;
 
 // The host reads a firmware register of the guest in a slot.
 #[no_mangle]
-pub extern "C" fn clundip_register_read(
+pub extern "C" fn clundip_register_read_abi2(
     records: &[u64; RECORD_WORDS],
     slot: u64,
     register: u64,
@@ -27,7 +27,7 @@ pub extern "C" fn clundip_register_read(
 
 // The host writes a firmware register of the guest in a slot.
 #[no_mangle]
-pub extern "C" fn clundip_register_write(
+pub extern "C" fn clundip_register_write_abi2(
     records: &mut [u64; RECORD_WORDS],
     slot: u64,
     register: u64,

@@ -1,4 +1,5 @@
 ghost use mathlib.Core.Path.{_≡_};
+ghost use mathlib.Core.Bool.{true, false};
 ghost use mathlib.Core.List.{List};
 ghost use Prim.Native.Nat.{ℕ};
 ghost use Rattle.answers.specs.Answer.{numbersOf};
@@ -18,27 +19,41 @@ use record_words::put_answer;
 use record_words::put_change;
 use tables::row_bounds;
 
-// A guest is created in the lowest slot that is not live.
+// A guest with ranges is created in the lowest slot that is not live.
 #[no_mangle]
-pub extern "C" fn clundip_create(
+pub extern "C" fn clundip_create_abi2(
     records: &mut [u64; RECORD_WORDS],
     frames: &[u32],
     map: &[u32],
     answer: &mut [u64; 5],
 )
     ensures { λ _. ⌜ lent (now (records .exit)) (now (frames .entry)) (now (map .entry)) (now (answer .exit))
-        ≡ lentAfter createOf (now (records .entry)) (now (frames .entry)) (now (map .entry)) ⌝ }
+        ≡ lentAfter (createOf false) (now (records .entry)) (now (frames .entry)) (now (map .entry)) ⌝ }
 {
-    let slot = monitor_in(records).free_slot();
-    let decision = decide_create(frames, map, slot);
-    let change = decision.change;
-    put_change(records, slot, change);
-    put_answer(answer, decision);
+    create_kind(records, frames, map, false, answer);
+}
+
+// The same for a guest that knows no ranges.
+#[no_mangle]
+pub extern "C" fn clundip_create_legacy_abi2(
+    records: &mut [u64; RECORD_WORDS],
+    frames: &[u32],
+    map: &[u32],
+    answer: &mut [u64; 5],
+)
+    ensures { λ _. ⌜ lent (now (records .exit)) (now (frames .entry)) (now (map .entry)) (now (answer .exit))
+        ≡ lentAfter (createOf true) (now (records .entry)) (now (frames .entry)) (now (map .entry)) ⌝ }
+{
+    create_kind(records, frames, map, true, answer);
 }
 
 // The guest in a slot is run.
 #[no_mangle]
-pub extern "C" fn clundip_run(records: &mut [u64; RECORD_WORDS], slot: u64, answer: &mut [u64; 5])
+pub extern "C" fn clundip_run_abi2(
+    records: &mut [u64; RECORD_WORDS],
+    slot: u64,
+    answer: &mut [u64; 5],
+)
     ensures { λ _. ⌜ ((frames map : List ℕ) → lent (now (records .exit)) frames map (now (answer .exit))
         ≡ lentAfter (runOf slot) (now (records .entry)) frames map) ⌝ }
 {
@@ -50,7 +65,7 @@ pub extern "C" fn clundip_run(records: &mut [u64; RECORD_WORDS], slot: u64, answ
 
 // The guest in a slot is removed.
 #[no_mangle]
-pub extern "C" fn clundip_remove(
+pub extern "C" fn clundip_remove_abi2(
     records: &mut [u64; RECORD_WORDS],
     frames: &mut [u32],
     map: &mut [u32],
@@ -68,7 +83,7 @@ pub extern "C" fn clundip_remove(
 
 // The row of the guest in a slot: where it begins in the map table, and how many words it has.
 #[no_mangle]
-pub extern "C" fn clundip_show(
+pub extern "C" fn clundip_show_abi2(
     records: &[u64; RECORD_WORDS],
     map: &[u32],
     slot: u64,
@@ -87,4 +102,22 @@ pub extern "C" fn clundip_show(
     } else {
         *part = [bounds.start as u64, words as u64];
     }
+}
+
+// A guest of either kind is created.
+fn create_kind(
+    records: &mut [u64; RECORD_WORDS],
+    frames: &[u32],
+    map: &[u32],
+    legacy: bool,
+    answer: &mut [u64; 5],
+)
+    ensures { λ _. ⌜ lent (now (records .exit)) (now (frames .entry)) (now (map .entry)) (now (answer .exit))
+        ≡ lentAfter (createOf legacy) (now (records .entry)) (now (frames .entry)) (now (map .entry)) ⌝ }
+{
+    let slot = monitor_in(records).free_slot();
+    let decision = decide_create(frames, map, slot, legacy);
+    let change = decision.change;
+    put_change(records, slot, change);
+    put_answer(answer, decision);
 }

@@ -4,8 +4,8 @@ use mathlib.Core.Path.{_∙_}
 use Rattle.record_words.specs.Words.{monitorIn}
 use Rattle.embed.proofs.PartLaws.{show-told, part-empty, part-there}
 use borrow.Author.Needs.{needs}
-use Rattle.embed.proofs.slots.clundip_show.Statement.{statement}
-use Rattle.embed.proofs.slots.clundip_show.Tie as tie
+use Rattle.embed.proofs.slots.clundip_show_abi2.Statement.{statement}
+use Rattle.embed.proofs.slots.clundip_show_abi2.Tie as tie
 
 returns : tie.Need-returns
 returns c =
@@ -21,5 +21,5 @@ returns-2 c =
       part-there (c .before .before .before .before .before .before .before .before .before .args .slot) monitor (c .before .before .before .before .before .before .before .before .before .args .map .now) _ (c .before .before .before .before .before .before .before .guest-in .ensures) _ (c .before .before .before .before .before .before .show-row .ensures .0) (c .before .if1 .left) _ (c .before .before .before .before .before .row-bounds .ensures),
     )
 
-pub clundip-show-spec : {M : Type 1} → statement M
-clundip-show-spec = tie.close (tie.spec (λ c κs. search needs) (λ c κs. search needs) (λ c κs. search needs) (λ c κs. search needs) (λ c κs. search needs) returns returns-2)
+pub clundip-show-abi2-spec : {M : Type 1} → statement M
+clundip-show-abi2-spec = tie.close (tie.spec (λ c κs. search needs) (λ c κs. search needs) (λ c κs. search needs) (λ c κs. search needs) (λ c κs. search needs) returns returns-2)

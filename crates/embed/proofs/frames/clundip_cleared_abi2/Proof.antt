@@ -5,13 +5,13 @@ use mathlib.Core.Path.{refl}
 use Rattle.records.specs.Monitor.{guestOf}
 use Rattle.record_words.specs.Words.{monitorIn}
 use borrow.Author.Needs.{needs}
-use Rattle.embed.proofs.frames.clundip_cleared.Statement.{statement}
-use Rattle.embed.proofs.frames.clundip_cleared.Tie as tie
+use Rattle.embed.proofs.frames.clundip_cleared_abi2.Statement.{statement}
+use Rattle.embed.proofs.frames.clundip_cleared_abi2.Tie as tie
 
 returns : tie.Need-returns
 unfolding clearedOf
 returns c =
     λ records. lent-kept (clearedCommand (c .before .before .before .before .before .before .before .before .args .frame)) records (c .before .before .before .before .before .before .before .before .args .frames .now) (c .before .before .before .before .before .before .before .before .args .map .now) 8 refl (guestOf (monitorIn records) 8) refl _ _ _ (c .before .before .before .decide-cleared .ensures 8 (guestOf (monitorIn records) 8)) _ (c .put-answer .ensures) refl
 
-pub clundip-cleared-spec : {M : Type 1} → statement M
-clundip-cleared-spec = tie.close (tie.spec (λ c κs. search needs) (λ c κs. search needs) (λ c. search needs) returns)
+pub clundip-cleared-abi2-spec : {M : Type 1} → statement M
+clundip-cleared-abi2-spec = tie.close (tie.spec (λ c κs. search needs) (λ c κs. search needs) (λ c. search needs) returns)
