@@ -1,5 +1,6 @@
 -- Document 01, "Trace program": "Kinds (arguments)", with "2 bytes length of the rest, version byte 1, kind byte, slot byte, then 8-byte arguments".
-use mathlib.Core.Bool.{Bool, false, _&&_, _||_}
+-- Document 02, Wish 1: "Create gets a second kind (trace kind 11, read as kind 1 is)".
+use mathlib.Core.Bool.{Bool, true, false, _&&_, _||_}
 use mathlib.Core.List.{List, [], _∷_, map}
 use Prim.Native.Nat.{ℕ, _+_, _*_}
 use lib.Dec.{eqb}
@@ -8,7 +9,7 @@ use Rattle.functions.specs.Rules.{registers}
 use Rattle.calls.specs.declared.call.Call.{Call}
 use Rattle.calls.specs.declared.call.Call.the-variants as call
 use Rattle.trace_kinds.specs.declared.kinds.RecordKind.{RecordKind}
-use Rattle.trace_kinds.specs.declared.kinds.RecordKind.the-variants.{Create, Donate, Run, Hypercall, Abort, Remove, Cleared, Access, RegisterRead, RegisterWrite}
+use Rattle.trace_kinds.specs.declared.kinds.RecordKind.the-variants.{Create, Donate, Run, Hypercall, Abort, Remove, Cleared, Access, RegisterRead, RegisterWrite, CreateLegacy}
 use Rattle.trace_kinds.specs.declared.kinds.Found.{Found}
 use Rattle.trace_kinds.specs.declared.kinds.Found.the-variants.{Known, Unknown}
 
@@ -18,7 +19,8 @@ version = 1
 
 -- the kinds in the order of their numbers, from 1
 abbrev pub kinds : List RecordKind
-kinds = Create ∷ Donate ∷ Run ∷ Hypercall ∷ Abort ∷ Remove ∷ Cleared ∷ Access ∷ RegisterRead ∷ RegisterWrite ∷ []
+kinds =
+    Create ∷ Donate ∷ Run ∷ Hypercall ∷ Abort ∷ Remove ∷ Cleared ∷ Access ∷ RegisterRead ∷ RegisterWrite ∷ CreateLegacy ∷ []
 
 unfoldable pub kindOf : ℕ → Found
 kindOf n = getD (Unknown ∷ map Known kinds) n Unknown
@@ -35,10 +37,11 @@ argumentsOf Cleared = 1
 argumentsOf Access = 1
 argumentsOf RegisterRead = 1
 argumentsOf RegisterWrite = 2
+argumentsOf CreateLegacy = 0
 
 -- what a record of a kind asks for, by its slot byte and its arguments; one that it does not have is not looked at. "Create, cleared and access ignore the slot byte."
 abbrev pub callOf : RecordKind → ℕ → ℕ → ℕ → ℕ → ℕ → Call
-callOf Create slot a b c d = call.Create
+callOf Create slot a b c d = call.Create false
 callOf Donate slot a b c d = call.Donate slot a b
 callOf Run slot a b c d = call.Run slot
 callOf Hypercall slot a b c d = call.Hypercall slot (registers a b c d)
@@ -48,6 +51,7 @@ callOf Cleared slot a b c d = call.Cleared a
 callOf Access slot a b c d = call.Access a
 callOf RegisterRead slot a b c d = call.RegisterRead slot a
 callOf RegisterWrite slot a b c d = call.RegisterWrite slot a b
+callOf CreateLegacy slot a b c d = call.Create true
 
 -- "length of the rest": version, kind and slot byte, and eight bytes for each argument
 abbrev pub lengthOf : RecordKind → ℕ

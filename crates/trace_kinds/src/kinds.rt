@@ -18,10 +18,11 @@ pub enum RecordKind {
     Access,
     RegisterRead,
     RegisterWrite,
+    CreateLegacy,
 }
 
 // The kinds in the order of their numbers, from 1.
-pub(crate) const KINDS: [RecordKind; 10] = [
+pub(crate) const KINDS: [RecordKind; 11] = [
     RecordKind::Create,
     RecordKind::Donate,
     RecordKind::Run,
@@ -32,6 +33,7 @@ pub(crate) const KINDS: [RecordKind; 10] = [
     RecordKind::Access,
     RecordKind::RegisterRead,
     RecordKind::RegisterWrite,
+    RecordKind::CreateLegacy,
 ];
 
 // What a number stands for.
@@ -71,6 +73,7 @@ impl RecordKind {
             RecordKind::Access => 1,
             RecordKind::RegisterRead => 1,
             RecordKind::RegisterWrite => 2,
+            RecordKind::CreateLegacy => 0,
         }
     }
 
@@ -79,7 +82,7 @@ impl RecordKind {
         ensures { λ r. ⌜ r ≡ callOf self slot a b c d ⌝ }
     {
         match self {
-            RecordKind::Create => Call::Create,
+            RecordKind::Create => Call::Create { legacy: false },
             RecordKind::Donate => Call::Donate {
                 slot,
                 frame: a,
@@ -105,6 +108,7 @@ impl RecordKind {
                 register: a,
                 value: b,
             },
+            RecordKind::CreateLegacy => Call::Create { legacy: true },
         }
     }
 
