@@ -1,5 +1,6 @@
 -- Worked records, closed by computing them.
 use mathlib.Core.Path.{refl}
+use mathlib.Core.Bool.{true, false}
 use mathlib.Core.List.{List, [], _∷_, _++_}
 use Prim.Native.Nat.{ℕ}
 use Rattle.runs.specs.Worked.{Case, AsExpected}
@@ -35,11 +36,13 @@ cases =
     ∷ recordCase (0 ∷ 3 ∷ 1 ∷ 6 ∷ 9 ∷ []) (Record (call.Remove 9) 5)
     ∷ recordCase (0 ∷ 11 ∷ 1 ∷ 9 ∷ 7 ∷ bytes) (Record (call.RegisterRead 7 0x0102030405060708) 13)
     -- the slot byte is ignored
-    ∷ recordCase (0 ∷ 3 ∷ 1 ∷ 1 ∷ 200 ∷ []) (Record call.Create 5)
+    ∷ recordCase (0 ∷ 3 ∷ 1 ∷ 1 ∷ 200 ∷ []) (Record (call.Create false) 5)
     ∷ recordCase (0 ∷ 11 ∷ 1 ∷ 7 ∷ 9 ∷ bytes) (Record (call.Cleared 0x0102030405060708) 13)
     ∷ recordCase (0 ∷ 11 ∷ 1 ∷ 8 ∷ 9 ∷ bytes) (Record (call.Access 0x0102030405060708) 13)
+    ∷ recordCase (0 ∷ 3 ∷ 1 ∷ 11 ∷ 200 ∷ []) (Record (call.Create true) 5)
     -- one byte is missing
     ∷ recordCase (0 ∷ 3 ∷ 1 ∷ 1 ∷ []) Unfinished
+    ∷ recordCase (0 ∷ 3 ∷ 1 ∷ 11 ∷ []) Unfinished
     -- the beginning of a record, and of none
     ∷ recordCase [] Unfinished
     ∷ recordCase (0 ∷ []) Unfinished
@@ -49,10 +52,11 @@ cases =
     ∷ recordCase (0 ∷ 3 ∷ 2 ∷ []) Bad
     -- the length of another kind, also in its upper byte; another version; no kind
     ∷ recordCase (0 ∷ 11 ∷ 1 ∷ 1 ∷ 0 ∷ bytes) Bad
+    ∷ recordCase (0 ∷ 11 ∷ 1 ∷ 11 ∷ 0 ∷ bytes) Bad
     ∷ recordCase (1 ∷ 3 ∷ 1 ∷ 1 ∷ 0 ∷ []) Bad
     ∷ recordCase (0 ∷ 3 ∷ 0 ∷ 1 ∷ 0 ∷ []) Bad
     ∷ recordCase (0 ∷ 3 ∷ 1 ∷ 0 ∷ 0 ∷ []) Bad
-    ∷ recordCase (0 ∷ 3 ∷ 1 ∷ 11 ∷ 0 ∷ []) Bad
+    ∷ recordCase (0 ∷ 3 ∷ 1 ∷ 12 ∷ 0 ∷ []) Bad
     ∷ recordCase (0 ∷ 3 ∷ 1 ∷ 255 ∷ 0 ∷ []) Bad
     ∷ []
 
