@@ -38,9 +38,10 @@ pub(crate) fn published_uid() {
     );
 }
 
-// The records after a guest is created in slot 0, given this many private granules from 0 on, frame g at granule g, and run.
+// The records after a guest with ranges is created in slot 0, given this many private granules from 0 on, frame g at granule g, and run.
 fn guest(frames: &mut [u32], map: &mut [u32], granules: u64) -> Monitor {
-    let created = Call::Create.perform(Monitor::fresh(), frames, map);
+    let create = Call::Create { legacy: false };
+    let created = create.perform(Monitor::fresh(), frames, map);
     let filled = fill(created.monitor, frames, map, granules);
     let run = Call::Run { slot: 0 };
     run.perform(filled, frames, map).monitor

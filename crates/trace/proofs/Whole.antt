@@ -1,4 +1,4 @@
--- Whole logs: the text of one that comes in pieces, and document 01's cases.
+-- Whole logs: the text of one that comes in pieces, and worked logs.
 use mathlib.Core.Path.{_≡_, refl}
 use mathlib.Core.List.{List, [], _∷_, _++_, flatten}
 use Prim.Native.Nat.{ℕ}
@@ -14,7 +14,7 @@ use Rattle.answers.specs.Answer.{numbersOf}
 use Rattle.granules.specs.Kind.{changeOf}
 use Rattle.granules.specs.Step.{stepFrom}
 use Rattle.functions.specs.Function.{functionOf}
-use Rattle.call_table.specs.Table.{callRowOf}
+use Rattle.call_table.specs.Table.{rangedRowOf, legacyRowOf}
 use Rattle.guest_hypercalls.specs.Calls.{actOf, hypercallOf}
 use Rattle.rows.specs.WholeRow.{rowVacant}
 use Rattle.host_registers.specs.Registers.{registerNumbered}
@@ -42,7 +42,7 @@ pub turn-first : (start left : Replay) (held p input out : List ℕ) (r : Turn) 
     → piecesText start held (p ∷ ps) ≡ take (r .put) out ++ piecesText left (take (r .held) input) ps
 turn-first start left held p input out r ps h = rw (h .comes-to)
 
--- document 01's example, whole and in pieces, the empty input, logs that are bad and cut short, and one at the bounds
+-- document 01's example, whole and in pieces, the empty input, logs that are bad and cut short, one at the bounds, and one of a guest that knows no ranges
 pub log-cases : AsExpected cases
-unfolding replayText outcomeOf advanceOf decodeOf kindOf numeral decimal step createOf freeFrom donateOf runOf registerNumbered hypercallOf actOf functionOf callRowOf stepFrom changeOf rowVacant boundsOf frameState pairOf granuleState pairAt mapWordOf frameWordOf mapBits frameBits numbersOf guestOf withGuest framesHold mapHolds
+unfolding replayText outcomeOf advanceOf decodeOf kindOf numeral decimal step createOf freeFrom donateOf runOf registerNumbered hypercallOf actOf functionOf rangedRowOf legacyRowOf stepFrom changeOf rowVacant boundsOf frameState pairOf granuleState pairAt mapWordOf frameWordOf mapBits frameBits numbersOf guestOf withGuest framesHold mapHolds
 log-cases = refl
