@@ -1,6 +1,7 @@
 // Logs that the gate replays beside the one of `replay`: each log that an argument names is replayed by itself, as replay does, to standard
-// output. They are document 01's example, one for each sort of bad record, no input, and one of 5,047 records, which is longer than a
-// piece. It rests on replay_stream, and on os, io and libc for its arguments and files. It decides nothing.
+// output. They are document 01's example, one of a legacy guest beside one with ranges, one for each sort of bad record, no input, and one of
+// 5,047 records, which is longer than a piece. It rests on replay_stream, and on os, io and libc for its arguments and files. It decides
+// nothing.
 use libc::STDOUT_FILENO;
 
 fn replay_file(number: usize) {
