@@ -41,14 +41,18 @@ module _ (a b : List ℕ) (i : ℕ) where
   pub words-end : length a ≤ i → length b ≤ i → sameWords (drop i a) (drop i b) ≡ true
   words-end h k = rw (drop-of-length-le a h, drop-of-length-le b k)
 
--- the words of slot v's record, copied over as many
+-- the part that the words of slot v's record are, copied over as many
 pub copied-whole : (w : List ℕ) (v : ℕ) → length w ≡ guestLength * 8 → v < 8
-    → let own = take guestLength (wordsFrom w v) in paste (replicate guestLength 0) 0 own (length own) ≡ own
+    → let start = guestLength * v in
+    let part = take (start + guestLength - start) (drop start w) in
+    paste (replicate guestLength 0) 0 part (length part) ≡ take guestLength (wordsFrom w v)
 copied-whole w v h l =
+    let start = guestLength * v in
+    let same : start + guestLength - start ≡ guestLength = omega arith in
     let own = take guestLength (wordsFrom w v) in
-    let rest : guestLength ≤ length w - guestLength * v = omega (arith, h, l) in
-    let long : length own ≡ guestLength = length-take-le guestLength (wordsFrom w v) (rw (length-drop (guestLength * v) w) rest) in
-    rw long (rw (take-all guestLength own (omega (arith, long)), append-nil own))
+    let rest : guestLength ≤ length w - start = omega (arith, h, l) in
+    let long : length own ≡ guestLength = length-take-le guestLength (wordsFrom w v) (rw (length-drop start w) rest) in
+    rw (same, long) (rw (take-all guestLength own (omega (arith, long)), append-nil own))
 
 same-self : (w : List ℕ) → sameWords w w ≡ true
 same-self [] = refl

@@ -42,7 +42,7 @@ pub turn-first : (start left : Replay) (held p input out : List ℕ) (r : Turn) 
     → piecesText start held (p ∷ ps) ≡ take (r .put) out ++ piecesText left (take (r .held) input) ps
 turn-first start left held p input out r ps h = rw (h .comes-to)
 
--- document 01's example, whole and in pieces, the empty input, logs that are bad and cut short, one at the bounds, and one of a guest that knows no ranges
+-- document 01's example, whole and in pieces, the empty input, logs that are bad and cut short, one at the bounds, and one of a legacy guest
 pub log-cases : AsExpected cases
 unfolding replayText outcomeOf advanceOf decodeOf kindOf numeral decimal step createOf freeFrom donateOf runOf registerNumbered hypercallOf actOf functionOf rangedRowOf legacyRowOf stepFrom changeOf rowVacant boundsOf frameState pairOf granuleState pairAt mapWordOf frameWordOf mapBits frameBits numbersOf guestOf withGuest framesHold mapHolds
 log-cases = refl
