@@ -57,7 +57,7 @@ module _ {F W : ℕ} {s : State} (i : WordsSound F W s) where
       (λ p. (lived v (guestOf (s .monitor) v) (p .0) .1, p .1 .1 .0))
 
 pub keep : {F W : ℕ} {s : State} → WordsSound F W s → (c : Call) → Preserved F W s c (step c s)
-keep i Create = keep-create i
+keep i (Create legacy) = keep-create i legacy
 keep i (Donate v f g) = keep-donate i v f g
 keep i (Run v) = keep-run i v
 keep i (Remove v) = keep-remove i v

@@ -4,7 +4,7 @@ use mathlib.Core.Bool.{Bool, true, false, cond}
 use Prim.Native.Nat.{ℕ}
 use native.Mathlib.Omega.{arith}
 use borrow.Author.Tests.{leb-true}
-use Rattle.words.proofs.Booleans.{never}
+use Rattle.words.proofs.Booleans.{never, both-true}
 use Rattle.runs.specs.Run.{run}
 use Rattle.pairs.specs.declared.pairs.GranuleState.{GranuleState}
 use Rattle.pairs.specs.declared.pairs.GranuleState.the-variants as granule-state
@@ -19,44 +19,46 @@ use Rattle.history.specs.Sound.{guestAs, SoundRecord, mayHold}
 
 -- the record of no guest is sound
 pub zero-sound : SoundRecord zeroGuest
-zero-sound = record { dead = λ e. refl; live = λ e. never e; limit = refl; enrolled = λ e. never e }
+zero-sound = record { dead = λ e. refl; live = λ e. never e; limit = refl; enrolled = λ e. never e; legacy = λ e. never e }
 
-pub new-sound : SoundRecord newGuest
-new-sound = record { dead = λ e. never (sym e); live = λ e. refl; limit = refl; enrolled = λ e. never e }
+pub new-sound : (legacy : Bool) → SoundRecord (newGuest legacy)
+new-sound legacy = record { dead = λ e. never (sym e); live = λ e. refl; limit = refl; enrolled = λ e. e; legacy = λ e. e }
 
 -- a live guest with other flags or bitmaps
 pub run-sound : (g : Guest) → SoundRecord g → g .live ≡ true → SoundRecord (markRun g)
-run-sound g k live = record { dead = λ e. never (sym e ∙ live); live = λ e. ap markRun (k .live live); limit = k .limit; enrolled = λ e. refl }
+run-sound g k live =
+    record { dead = λ e. never (sym e ∙ live); live = λ e. ap markRun (k .live live); limit = k .limit; enrolled = λ e. refl; legacy = k .legacy }
 
 pub run-holds : (g : Guest) (k : GranuleState) → mayHold g k ≡ true → mayHold (markRun g) k ≡ true
 run-holds g granule-state.Vacant h = h
 run-holds g (granule-state.Frame true f) h = refl
 run-holds g (granule-state.Frame false f) h = h
-run-holds g granule-state.Guarded h = h
+run-holds g granule-state.Guarded h = rw (both-true (g .enrolled) (g .run) h .0)
 run-holds g granule-state.Damaged h = h
 
 -- the flags of a record that keeps them
 pub record SameFlags (g h : Guest) : Type 0 where
   pub live : h .live ≡ g .live
+  pub legacy : h .legacy ≡ g .legacy
   pub run : h .run ≡ g .run
   pub enrolled : h .enrolled ≡ g .enrolled
 
 pub bitmap-flags : (r : FirmwareRegister) (x : ℕ) (g : Guest) → SameFlags g (withBitmap r x g)
-bitmap-flags Std x g = record { live = refl; run = refl; enrolled = refl }
-bitmap-flags StdHyp x g = record { live = refl; run = refl; enrolled = refl }
-bitmap-flags VendorHyp x g = record { live = refl; run = refl; enrolled = refl }
-bitmap-flags Unknown x g = record { live = refl; run = refl; enrolled = refl }
+bitmap-flags Std x g = record { live = refl; legacy = refl; run = refl; enrolled = refl }
+bitmap-flags StdHyp x g = record { live = refl; legacy = refl; run = refl; enrolled = refl }
+bitmap-flags VendorHyp x g = record { live = refl; legacy = refl; run = refl; enrolled = refl }
+bitmap-flags Unknown x g = record { live = refl; legacy = refl; run = refl; enrolled = refl }
 
 pub flags-hold : (g h : Guest) → SameFlags g h → (k : GranuleState) → mayHold g k ≡ true → mayHold h k ≡ true
 flags-hold g h e granule-state.Vacant q = q
 flags-hold g h e (granule-state.Frame true f) q = e .run ∙ q
 flags-hold g h e (granule-state.Frame false f) q = e .live ∙ q
-flags-hold g h e granule-state.Guarded q = e .enrolled ∙ q
+flags-hold g h e granule-state.Guarded q = rw (e .enrolled, e .run) q
 flags-hold g h e granule-state.Damaged q = q
 
 -- STD and STD_HYP can be written only as create sets them
 bitmap-live : (r : FirmwareRegister) (x : ℕ) (g : Guest) → SoundRecord g → g .live ≡ true → withinLimit r x ≡ true
-    → let h = withBitmap r x g in h ≡ guestAs (h .run) (h .enrolled) (h .«vendor_hyp»)
+    → let h = withBitmap r x g in h ≡ guestAs (h .legacy) (h .run) (h .enrolled) (h .«vendor_hyp»)
 bitmap-live Std x g k live h =
     let zero : x ≡ 0 = omega (arith, leb-true x 0 h) in
     rw zero (ap (withBitmap Std 0) (k .live live))
@@ -79,35 +81,43 @@ bitmap-sound r x g k live h =
       dead = λ q. never (sym q ∙ e .live ∙ live);
       live = λ q. bitmap-live r x g k live h;
       limit = bitmap-within r x g k h;
-      enrolled = λ q. e .run ∙ k .enrolled (sym (e .enrolled) ∙ q);
+      enrolled = λ q. rw (e .run, e .legacy) (k .enrolled (sym (e .enrolled) ∙ q));
+      legacy = λ q. e .enrolled ∙ k .legacy (sym (e .legacy) ∙ q);
     }
 
 pub enroll-sound : (g : Guest) → SoundRecord g → g .live ≡ true → g .run ≡ true → SoundRecord (enroll g)
-enroll-sound g k live has-run = record { dead = λ e. never (sym e ∙ live); live = λ e. ap enroll (k .live live); limit = k .limit; enrolled = λ e. has-run }
+enroll-sound g k live has-run =
+    record { dead = λ e. never (sym e ∙ live); live = λ e. ap enroll (k .live live); limit = k .limit; enrolled = λ e. rw has-run; legacy = λ e. refl }
 
 pub enroll-holds : (g : Guest) (k : GranuleState) → mayHold g k ≡ true → mayHold (enroll g) k ≡ true
 enroll-holds g granule-state.Vacant h = h
 enroll-holds g (granule-state.Frame true f) h = h
 enroll-holds g (granule-state.Frame false f) h = h
-enroll-holds g granule-state.Guarded h = refl
+enroll-holds g granule-state.Guarded h = both-true (g .enrolled) (g .run) h .1
 enroll-holds g granule-state.Damaged h = h
 
--- a new guest that has this bitmap, and then has run or not, and has enrolled or not
-abbrev pub written : ℕ → Guest
-written x = withBitmap VendorHyp x newGuest
+-- a new guest of either kind that has this bitmap, and then has run or not, and has enrolled or not
+abbrev pub written : Bool → ℕ → Guest
+written legacy x = withBitmap VendorHyp x (newGuest legacy)
 
-abbrev pub started : ℕ → Bool → Guest
-started x a = cond a (markRun (written x)) (written x)
+abbrev pub started : Bool → ℕ → Bool → Guest
+started legacy x a = cond a (markRun (written legacy x)) (written legacy x)
 
-abbrev pub joined : ℕ → Bool → Bool → Guest
-joined x a b = cond b (enroll (started x a)) (started x a)
+abbrev pub joined : Bool → ℕ → Bool → Bool → Guest
+joined legacy x a b = cond b (enroll (started legacy x a)) (started legacy x a)
 
-joined-is : (x : ℕ) (a b : Bool) → joined x a b ≡ guestAs a b x
-joined-is x true true = refl
-joined-is x true false = refl
-joined-is x false true = refl
-joined-is x false false = refl
+-- a legacy guest has enrolled since it was created
+pub joined-since : (x : ℕ) (a : Bool) → joined true x a true ≡ started true x a
+joined-since x true = refl
+joined-since x false = refl
+
+joined-is : (legacy : Bool) (x : ℕ) (a b : Bool) → (legacy ≡ true → b ≡ true) → joined legacy x a b ≡ guestAs legacy a b x
+joined-is legacy x true true k = refl
+joined-is legacy x false true k = refl
+joined-is true x a false k = never (k refl)
+joined-is false x true false k = refl
+joined-is false x false false k = refl
 
 -- a live guest is one of these
-pub record-is : (g : Guest) → g .live ≡ true → SoundRecord g → joined (g .«vendor_hyp») (g .run) (g .enrolled) ≡ g
-record-is g live k = joined-is (g .«vendor_hyp») (g .run) (g .enrolled) ∙ sym (k .live live)
+pub record-is : (g : Guest) → g .live ≡ true → SoundRecord g → joined (g .legacy) (g .«vendor_hyp») (g .run) (g .enrolled) ≡ g
+record-is g live k = joined-is (g .legacy) (g .«vendor_hyp») (g .run) (g .enrolled) (k .legacy) ∙ sym (k .live live)

@@ -82,12 +82,12 @@ module _ {F W : ℕ} {s : State} (i : WordsSound F W s) where
       let p = row-seen v g h l in
       rw (zero-add, p .1, ← (pair-seen (i .sized) v g h (p .0))) (granule-undamaged i v g h (p .0)))
 
-  pub keep-create : Preserved F W s Create (step Create s)
+  pub keep-create : (legacy : Bool) → Preserved F W s (Create legacy) (step (Create legacy) s)
   unfolding numbersOf
-  keep-create =
+  keep-create legacy =
       let v = freeSlot (s .monitor) in
       let dead : v < 8 → guestOf (s .monitor) v .live ≡ false = λ h. free-dead (s .monitor) 8 0 (omega arith) in
-      calm-kept i Create (λ f n x. refl)
+      calm-kept i (Create legacy) (λ f n x. refl)
       (test (sure _ (lengths-hold (i .sized))) λ a. test (sure _ (free-row v dead)) λ b. test (λ q. (refl, refl)) λ c. tt)
       (λ p. let h = ltb-true v 8 (p .1 .1 .0) in (h, dead h))
 

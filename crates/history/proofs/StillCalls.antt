@@ -37,7 +37,7 @@ dead-vacant map-word.Damaged h = cc
 -- what a change of slot v's record must find in a sound state. A removal alone is never sound: the row would stay.
 abbrev pub Allows : State → ℕ → Change → Type 0
 Allows s v change.Kept = Unit {0}
-Allows s v change.Created = (v < 8) × (guestOf (s .monitor) v .live ≡ false)
+Allows s v (change.Created legacy) = (v < 8) × (guestOf (s .monitor) v .live ≡ false)
 Allows s v change.Removed = ⊥
 Allows s v change.Run = guestOf (s .monitor) v .live ≡ true
 Allows s v change.Enrolled = (guestOf (s .monitor) v .live ≡ true) × (guestOf (s .monitor) v .run ≡ true)
@@ -60,7 +60,7 @@ module _ {F W : ℕ} {s : State} (i : WordsSound F W s) where
 
   pub change-sound : (v : ℕ) (d : Change) → Allows s v d → WordsSound F W (state (s .frames) (s .map) (withChange (s .monitor) v d))
   change-sound v change.Kept a = i
-  change-sound v change.Created a = recorded-sound i v newGuest new-sound (λ g l q. rw (dead-row v g (a .0) l (a .1)))
+  change-sound v (change.Created legacy) a = recorded-sound i v (newGuest legacy) (new-sound legacy) (λ g l q. rw (dead-row v g (a .0) l (a .1)))
   change-sound v change.Removed a = absurd a
   change-sound v change.Run a =
       let g = guestOf (s .monitor) v in
