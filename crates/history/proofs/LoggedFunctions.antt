@@ -9,15 +9,15 @@ use Rattle.functions.specs.Function.{functionOf, askedBy}
 use Rattle.functions.specs.declared.numbers.Function.{Function}
 use Rattle.functions.specs.declared.numbers.Function.the-variants.{Features, Uid, MemoryInfo, Share, Unshare, GuardInfo, Enroll, GuardMap, GuardUnmap, Relinquish, RangeGuardMap, RangeGuardUnmap, Unknown}
 use Rattle.functions.specs.declared.rules.Registers.{Registers}
-use Rattle.history.specs.Log.{FrameChange, shared, unshared, relinquished, among, changedWhere, afterHypercall}
+use Rattle.history.specs.Log.{FrameChange, shared, unshared, relinquished, among, changedWhere, toldGranules, afterHypercall}
 
 -- what a function that is done makes of a frame, with n told in R1
 abbrev pub afterFunction : Function → ℕ → ℕ → ℕ → FrameChange → FrameChange
 afterFunction Features v g n c = c
 afterFunction Uid v g n c = c
 afterFunction MemoryInfo v g n c = c
-afterFunction Share v g n c = changedWhere (among v g n) shared c
-afterFunction Unshare v g n c = changedWhere (among v g n) unshared c
+afterFunction Share v g n c = changedWhere (among v g (toldGranules n)) shared c
+afterFunction Unshare v g n c = changedWhere (among v g (toldGranules n)) unshared c
 afterFunction GuardInfo v g n c = c
 afterFunction Enroll v g n c = c
 afterFunction GuardMap v g n c = c
@@ -37,8 +37,8 @@ module _ (v g n : ℕ) (c : FrameChange) where
 
   abbrev byNumber : Bool → Bool → Bool → FrameChange
   byNumber s u r =
-      cond s (changedWhere (among v g n) shared c)
-      (cond u (changedWhere (among v g n) unshared c)
+      cond s (changedWhere (among v g (toldGranules n)) shared c)
+      (cond u (changedWhere (among v g (toldGranules n)) unshared c)
       (cond r (changedWhere (among v g 1) (λ u h. relinquished) c)
       c))
 
