@@ -23,7 +23,7 @@ use Rattle.records.specs.Monitor.{guestOf, withGuest, freeFrom}
 use Rattle.granules.specs.Kind.{changeOf}
 use Rattle.granules.specs.Step.{stepFrom}
 use Rattle.functions.specs.Function.{functionOf}
-use Rattle.call_table.specs.Table.{callRowOf}
+use Rattle.call_table.specs.Table.{rangedRowOf, legacyRowOf}
 use Rattle.guest_hypercalls.specs.Calls.{actOf, hypercallOf}
 use Rattle.rows.specs.WholeRow.{rowVacant, undamagedFrom, framesFreed, framesNamed}
 use Rattle.host_donation.specs.Calls.{donateOf}
@@ -147,5 +147,5 @@ reachable-exactly s = (reachable-sound s, sound-reachable s)
 
 -- Worked logs: the last change that each says of a frame, and what access then answers.
 pub history-cases : AsExpected logs
-unfolding step createOf freeFrom donateOf runOf removeOf clearedOf hostAccessOf hypercallOf actOf functionOf callRowOf stepFrom changeOf rowVacant undamagedFrom framesFreed framesNamed boundsOf frameState pairOf granuleState pairAt mapWordOf frameWordOf mapBits frameBits numbersOf guestOf withGuest framesHold mapHolds afterHypercall
+unfolding step createOf freeFrom donateOf runOf removeOf clearedOf hostAccessOf hypercallOf actOf functionOf rangedRowOf legacyRowOf stepFrom changeOf rowVacant undamagedFrom framesFreed framesNamed boundsOf frameState pairOf granuleState pairAt mapWordOf frameWordOf mapBits frameBits numbersOf guestOf withGuest framesHold mapHolds afterHypercall
 history-cases = refl

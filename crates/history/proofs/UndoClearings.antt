@@ -70,7 +70,7 @@ module _ (F W : ℕ) where
     unclaimed = state (set (s .frames) n (frameBits frame-word.Host)) (s .map) (s .monitor)
 
     abbrev joined : State
-    joined = state (unclaimed .frames) (s .map) (withGuest (s .monitor) 0 newGuest)
+    joined = state (unclaimed .frames) (s .map) (withGuest (s .monitor) 0 (newGuest false))
 
     abbrev given : State
     given =
@@ -86,10 +86,10 @@ module _ (F W : ℕ) where
     vacant v g slot l = row-vacant (unclaimed-put .sound) v slot (dead v slot) g l
 
     joined-sound : WordsSound F W joined
-    joined-sound = recorded-sound (unclaimed-put .sound) 0 newGuest new-sound (λ g l q. rw (vacant 0 g (omega arith) l))
+    joined-sound = recorded-sound (unclaimed-put .sound) 0 (newGuest false) (new-sound false) (λ g l q. rw (vacant 0 g (omega arith) l))
 
-    first : guestOf (joined .monitor) 0 ≡ newGuest
-    first = guest-put (s .monitor) 0 newGuest (omega arith) (omega (arith, i .sized .guests))
+    first : guestOf (joined .monitor) 0 ≡ newGuest false
+    first = guest-put (s .monitor) 0 (newGuest false) (omega arith) (omega (arith, i .sized .guests))
 
     joined-host : own joined n ≡ frame-word.Host
     unfolding own
@@ -124,12 +124,12 @@ module _ (F W : ℕ) where
         (λ m q. rw (given-other f m) (owners-stay i 0 (omega arith) first-dead f q))
         l)
         look-other
-        (guest-back (s .monitor) 0 newGuest zeroGuest (omega arith) first-dead)
+        (guest-back (s .monitor) 0 (newGuest false) zeroGuest (omega arith) first-dead)
 
     clearing-undone : Reached F W unclaimed → Reached F W s
     clearing-undone reached =
         let j = unclaimed-put .sound in
-        let a = reached-next reached Create tt (create-leaves j 0 (first-free unclaimed dead) (omega arith) (ap (λ (x : Guest). x .live) (dead 0 (omega arith)))) in
+        let a = reached-next reached (Create false) tt (create-leaves j false 0 (first-free unclaimed dead) (omega arith) (ap (λ (x : Guest). x .live) (dead 0 (omega arith)))) in
         let b = reached-next {t = given} a (Donate 0 n 0) (omega arith, (omega (arith, at-most (i .sized)), (omega arith, tt))) (donate-leaves joined-sound 0 n 0 (ap (λ (x : Guest). x .live) first) h wide joined-host joined-vacant ∙ rw (width-is (joined-sound .sized))) in
         reached-next b (Remove 0) (omega arith, tt) (remove-leaves (given-put .0 .sound) 0 (ap (λ (x : Guest). x .live) first) ∙ gone-state)
 

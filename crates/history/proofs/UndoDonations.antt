@@ -1,5 +1,5 @@
 -- Every sound state whose guests are all new is reached: their frames were donated.
-use mathlib.Core.Path.{_≡_, refl, sym, ap, _∙_}
+use mathlib.Core.Path.{_≡_, refl, sym, ap, subst, _∙_}
 use mathlib.Core.Logic.{_≢_}
 use mathlib.Core.Bool.{Bool, true, false}
 use Prim.Native.Nat.{ℕ, _+_, _*_, _<_}
@@ -11,7 +11,7 @@ use Rattle.words.specs.declared.map_word.MapWord.{MapWord}
 use Rattle.words.specs.declared.map_word.MapWord.the-variants as map-word
 use Rattle.words.specs.declared.frame_word.FrameWord.{FrameWord}
 use Rattle.words.specs.declared.frame_word.FrameWord.the-variants as frame-word
-use Rattle.words.proofs.Booleans.{never}
+use Rattle.words.proofs.Booleans.{never, both-true}
 use Rattle.tables.specs.Length.{lengthsHold}
 use Rattle.records.specs.Monitor.{newGuest, guestOf}
 use Rattle.commands.specs.State.{State, state}
@@ -25,17 +25,17 @@ use Rattle.history.proofs.WordMoves.{FramePut, GranulePut, pair-put}
 use Rattle.history.proofs.SameState.{frame-back, map-back}
 use Rattle.history.proofs.CallsDone.{donate-leaves}
 use Rattle.history.proofs.Reached.{Reached, reached-next, Undone, undone-put, frames-reached}
-use Rattle.history.proofs.UndoCreations.{new-reached}
+use Rattle.history.proofs.UndoCreations.{IsNew, new-reached}
 
 -- what a new guest can hold is a private frame
-new-holds : (d : MapWord) → mayHold newGuest (stateBy d) ≡ true → (f : ℕ) → d ≢ map-word.Frame true f
-new-holds d h f e = never (rw e at h)
+new-holds : (legacy : Bool) (d : MapWord) → mayHold (newGuest legacy) (stateBy d) ≡ true → (f : ℕ) → d ≢ map-word.Frame true f
+new-holds legacy d h f e = never (rw e at h)
 
-new-vacant : (d : MapWord) → mayHold newGuest (stateBy d) ≡ true → ((b : Bool) (f : ℕ) → d ≢ map-word.Frame b f) → d ≡ map-word.Vacant
-new-vacant map-word.Vacant h n = refl
-new-vacant (map-word.Frame b f) h n = absurd (n b f refl)
-new-vacant map-word.Guarded h n = never h
-new-vacant map-word.Damaged h n = never h
+new-vacant : (legacy : Bool) (d : MapWord) → mayHold (newGuest legacy) (stateBy d) ≡ true → ((b : Bool) (f : ℕ) → d ≢ map-word.Frame b f) → d ≡ map-word.Vacant
+new-vacant legacy map-word.Vacant h n = refl
+new-vacant legacy (map-word.Frame b f) h n = absurd (n b f refl)
+new-vacant legacy map-word.Guarded h n = never (both-true legacy false h .1)
+new-vacant legacy map-word.Damaged h n = never h
 
 abbrev isOwned : FrameWord → Bool
 isOwned frame-word.Host = false
@@ -45,12 +45,16 @@ isOwned frame-word.Damaged = false
 
 module _ (F W : ℕ) (bounds : lengthsHold F (8 * W) ≡ true) where
   abbrev AllNew : State → Type 0
-  AllNew s = (v : ℕ) → v < 8 → guestOf (s .monitor) v ≡ newGuest
+  AllNew s = (v : ℕ) → v < 8 → IsNew (guestOf (s .monitor) v)
+
+  -- what such a guest holds
+  held : (s : State) → WordsSound F W s → AllNew s → (v g : ℕ) → v < 8 → g < W → mayHold (newGuest (guestOf (s .monitor) v .legacy)) (stateBy (look W s v g)) ≡ true
+  held s i new v g h l = subst (λ x. mayHold x (stateBy (look W s v g)) ≡ true) (new v h) (i .holds v g h l)
 
   none-owned-reached : (s : State) → WordsSound F W s → AllNew s → ((f : ℕ) → f < F → isOwned (own s f) ≡ false) → Reached F W s
   none-owned-reached s i new none =
       new-reached F W bounds s i new (λ v g h l.
-      new-vacant (look W s v g) (rw (new v h) at (i .holds v g h l)) (λ b f e.
+      new-vacant (guestOf (s .monitor) v .legacy) (look W s v g) (held s i new v g h l) (λ b f e.
       let p = i .says-back v b g f h l e in
       let y : isOwned (own s f) ≡ true = rw (p .1) in
       never (sym (none f (p .0)) ∙ y)))
@@ -83,7 +87,7 @@ module _ (F W : ℕ) (bounds : lengthsHold F (8 * W) ≡ true) where
   undo s i new n h frame-word.Waiting e w = never w
   undo s i new n h (frame-word.Owned v true g) e w =
       let p = i .says v true g n h e in
-      absurd (new-holds (look W s v g) (rw (new v (p .0)) at (i .holds v g (p .0) (p .1))) n (p .2))
+      absurd (new-holds (guestOf (s .monitor) v .legacy) (look W s v g) (held s i new v g (p .0) (p .1)) n (p .2))
   undo s i new n h (frame-word.Owned v false g) e w =
       undone-put (undonated-put n s i new h v g e .0) new refl (donation-undone n s i new h v g e)
   undo s i new n h frame-word.Damaged e w = never w

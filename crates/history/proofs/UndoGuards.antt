@@ -11,7 +11,7 @@ use Rattle.words.specs.declared.map_word.MapWord.{MapWord}
 use Rattle.words.specs.declared.map_word.MapWord.the-variants as map-word
 use Rattle.words.specs.declared.frame_word.FrameWord.{FrameWord}
 use Rattle.words.specs.declared.frame_word.FrameWord.the-variants as frame-word
-use Rattle.words.proofs.Booleans.{never}
+use Rattle.words.proofs.Booleans.{never, both-true}
 use Rattle.tables.specs.Length.{lengthsHold}
 use Rattle.records.specs.Monitor.{newGuest, guestOf}
 use Rattle.commands.specs.State.{State, state}
@@ -34,7 +34,7 @@ run-live g k e = on (g .live) refl
     on true h = h
     on false h = let dead : g .run ≡ false = ap (λ (x : Guest). x .run) (k .dead h) in never (sym dead ∙ e)
 
-plain-word : (g : Guest) (d : MapWord) → mayHold g (stateBy d) ≡ true → ((f : ℕ) → d ≢ map-word.Frame true f) → d ≢ map-word.Guarded → mayHold newGuest (stateBy d) ≡ true
+plain-word : (g : Guest) (d : MapWord) → mayHold g (stateBy d) ≡ true → ((f : ℕ) → d ≢ map-word.Frame true f) → d ≢ map-word.Guarded → mayHold (newGuest false) (stateBy d) ≡ true
 plain-word g map-word.Vacant h a b = refl
 plain-word g (map-word.Frame true f) h a b = absurd (a f refl)
 plain-word g (map-word.Frame false f) h a b = refl
@@ -68,11 +68,11 @@ module _ (F W : ℕ) (bounds : lengthsHold F (8 * W) ≡ true) where
   NoneGuardedFrom n s = (v g : ℕ) → v < 8 → g < W → n ≤ v * W + g → look W s v g ≢ map-word.Guarded
 
   module _ (s : State) (i : WordsSound F W s) (v g : ℕ) (slot : v < 8) (below : g < W) (e : look W s v g ≡ map-word.Guarded) where
-    enrolled : guestOf (s .monitor) v .enrolled ≡ true
-    enrolled = rw e at (i .holds v g slot below)
+    enrolled-run : (guestOf (s .monitor) v .enrolled ≡ true) × (guestOf (s .monitor) v .run ≡ true)
+    enrolled-run = both-true (guestOf (s .monitor) v .enrolled) (guestOf (s .monitor) v .run) (rw e at (i .holds v g slot below))
 
     has-run : guestOf (s .monitor) v .run ≡ true
-    has-run = i .records v slot .enrolled enrolled
+    has-run = enrolled-run .1
 
     abbrev unguarded : State
     unguarded = state (s .frames) (set (s .map) (v * W + g) (mapBits map-word.Vacant)) (s .monitor)
@@ -83,7 +83,7 @@ module _ (F W : ℕ) (bounds : lengthsHold F (8 * W) ≡ true) where
     guard-undone : Reached F W unguarded → Reached F W s
     guard-undone reached =
         reached-next reached (Hypercall v (asking 0xC6000007 g)) (asking-fits v 0xC6000007 g slot (omega arith) (omega (arith, at-most (i .sized))))
-        (guard-leaves (unguarded-put .sound) v (run-live (guestOf (s .monitor) v) (i .records v slot) has-run) has-run g below enrolled (unguarded-put .granule)
+        (guard-leaves (unguarded-put .sound) v (run-live (guestOf (s .monitor) v) (i .records v slot) has-run) has-run g below (enrolled-run .0) (unguarded-put .granule)
         ∙ rw (map-back i v g (mapBits map-word.Vacant) map-word.Guarded slot below e))
 
   guards-reached : (n : ℕ) → n ≤ 8 * W → (s : State) → WordsSound F W s → NoneShared s → NoneGuardedFrom n s → Reached F W s
