@@ -22,7 +22,12 @@ pub zero-sound : SoundRecord zeroGuest
 zero-sound = record { dead = λ e. refl; live = λ e. never e; limit = refl; enrolled = λ e. never e; legacy = λ e. never e }
 
 pub new-sound : (legacy : Bool) → SoundRecord (newGuest legacy)
-new-sound legacy = record { dead = λ e. never (sym e); live = λ e. refl; limit = refl; enrolled = λ e. e; legacy = λ e. e }
+new-sound true = record { dead = λ e. never (sym e); live = λ e. refl; limit = refl; enrolled = λ e. refl; legacy = λ e. refl }
+new-sound false = record { dead = λ e. never (sym e); live = λ e. refl; limit = refl; enrolled = λ e. never e; legacy = λ e. never e }
+
+-- a guest with a guarded granule, legacy or not, has enrolled and run
+pub guarded-flags : (g : Guest) → mayHold g granule-state.Guarded ≡ true → (g .enrolled ≡ true) × (g .run ≡ true)
+guarded-flags g h = both-true (g .enrolled) (g .run) h
 
 -- a live guest with other flags or bitmaps
 pub run-sound : (g : Guest) → SoundRecord g → g .live ≡ true → SoundRecord (markRun g)
@@ -33,21 +38,20 @@ pub run-holds : (g : Guest) (k : GranuleState) → mayHold g k ≡ true → mayH
 run-holds g granule-state.Vacant h = h
 run-holds g (granule-state.Frame true f) h = refl
 run-holds g (granule-state.Frame false f) h = h
-run-holds g granule-state.Guarded h = rw (both-true (g .enrolled) (g .run) h .0)
+run-holds g granule-state.Guarded h = rw (guarded-flags g h .0)
 run-holds g granule-state.Damaged h = h
 
 -- the flags of a record that keeps them
 pub record SameFlags (g h : Guest) : Type 0 where
   pub live : h .live ≡ g .live
-  pub legacy : h .legacy ≡ g .legacy
   pub run : h .run ≡ g .run
   pub enrolled : h .enrolled ≡ g .enrolled
 
 pub bitmap-flags : (r : FirmwareRegister) (x : ℕ) (g : Guest) → SameFlags g (withBitmap r x g)
-bitmap-flags Std x g = record { live = refl; legacy = refl; run = refl; enrolled = refl }
-bitmap-flags StdHyp x g = record { live = refl; legacy = refl; run = refl; enrolled = refl }
-bitmap-flags VendorHyp x g = record { live = refl; legacy = refl; run = refl; enrolled = refl }
-bitmap-flags Unknown x g = record { live = refl; legacy = refl; run = refl; enrolled = refl }
+bitmap-flags Std x g = record { live = refl; run = refl; enrolled = refl }
+bitmap-flags StdHyp x g = record { live = refl; run = refl; enrolled = refl }
+bitmap-flags VendorHyp x g = record { live = refl; run = refl; enrolled = refl }
+bitmap-flags Unknown x g = record { live = refl; run = refl; enrolled = refl }
 
 pub flags-hold : (g h : Guest) → SameFlags g h → (k : GranuleState) → mayHold g k ≡ true → mayHold h k ≡ true
 flags-hold g h e granule-state.Vacant q = q
@@ -57,33 +61,19 @@ flags-hold g h e granule-state.Guarded q = rw (e .enrolled, e .run) q
 flags-hold g h e granule-state.Damaged q = q
 
 -- STD and STD_HYP can be written only as create sets them
-bitmap-live : (r : FirmwareRegister) (x : ℕ) (g : Guest) → SoundRecord g → g .live ≡ true → withinLimit r x ≡ true
-    → let h = withBitmap r x g in h ≡ guestAs (h .legacy) (h .run) (h .enrolled) (h .«vendor_hyp»)
-bitmap-live Std x g k live h =
-    let zero : x ≡ 0 = omega (arith, leb-true x 0 h) in
-    rw zero (ap (withBitmap Std 0) (k .live live))
-bitmap-live StdHyp x g k live h =
-    let zero : x ≡ 0 = omega (arith, leb-true x 0 h) in
-    rw zero (ap (withBitmap StdHyp 0) (k .live live))
-bitmap-live VendorHyp x g k live h = ap (withBitmap VendorHyp x) (k .live live)
-bitmap-live Unknown x g k live h = k .live live
-
-bitmap-within : (r : FirmwareRegister) (x : ℕ) (g : Guest) → SoundRecord g → withinLimit r x ≡ true → withinLimit VendorHyp (withBitmap r x g .«vendor_hyp») ≡ true
-bitmap-within Std x g k h = k .limit
-bitmap-within StdHyp x g k h = k .limit
-bitmap-within VendorHyp x g k h = h
-bitmap-within Unknown x g k h = k .limit
-
 pub bitmap-sound : (r : FirmwareRegister) (x : ℕ) (g : Guest) → SoundRecord g → g .live ≡ true → withinLimit r x ≡ true → SoundRecord (withBitmap r x g)
-bitmap-sound r x g k live h =
-    let e = bitmap-flags r x g in
-    record {
-      dead = λ q. never (sym q ∙ e .live ∙ live);
-      live = λ q. bitmap-live r x g k live h;
-      limit = bitmap-within r x g k h;
-      enrolled = λ q. rw (e .run, e .legacy) (k .enrolled (sym (e .enrolled) ∙ q));
-      legacy = λ q. e .enrolled ∙ k .legacy (sym (e .legacy) ∙ q);
-    }
+bitmap-sound Std x g k live h =
+    let zero : x ≡ 0 = omega (arith, leb-true x 0 h) in
+    let same = ap (withBitmap Std 0) (k .live live) in
+    record { dead = λ q. never (sym q ∙ live); live = λ q. rw zero same; limit = k .limit; enrolled = k .enrolled; legacy = k .legacy }
+bitmap-sound StdHyp x g k live h =
+    let zero : x ≡ 0 = omega (arith, leb-true x 0 h) in
+    let same = ap (withBitmap StdHyp 0) (k .live live) in
+    record { dead = λ q. never (sym q ∙ live); live = λ q. rw zero same; limit = k .limit; enrolled = k .enrolled; legacy = k .legacy }
+bitmap-sound VendorHyp x g k live h =
+    let same = ap (withBitmap VendorHyp x) (k .live live) in
+    record { dead = λ q. never (sym q ∙ live); live = λ q. same; limit = h; enrolled = k .enrolled; legacy = k .legacy }
+bitmap-sound Unknown x g k live h = k
 
 pub enroll-sound : (g : Guest) → SoundRecord g → g .live ≡ true → g .run ≡ true → SoundRecord (enroll g)
 enroll-sound g k live has-run =
@@ -93,7 +83,7 @@ pub enroll-holds : (g : Guest) (k : GranuleState) → mayHold g k ≡ true → m
 enroll-holds g granule-state.Vacant h = h
 enroll-holds g (granule-state.Frame true f) h = h
 enroll-holds g (granule-state.Frame false f) h = h
-enroll-holds g granule-state.Guarded h = both-true (g .enrolled) (g .run) h .1
+enroll-holds g granule-state.Guarded h = guarded-flags g h .1
 enroll-holds g granule-state.Damaged h = h
 
 -- a new guest of either kind that has this bitmap, and then has run or not, and has enrolled or not

@@ -11,7 +11,7 @@ use Rattle.words.specs.declared.map_word.MapWord.{MapWord}
 use Rattle.words.specs.declared.map_word.MapWord.the-variants as map-word
 use Rattle.words.specs.declared.frame_word.FrameWord.{FrameWord}
 use Rattle.words.specs.declared.frame_word.FrameWord.the-variants as frame-word
-use Rattle.words.proofs.Booleans.{never, both-true}
+use Rattle.words.proofs.Booleans.{never}
 use Rattle.tables.specs.Length.{lengthsHold}
 use Rattle.records.specs.Monitor.{newGuest, guestOf}
 use Rattle.commands.specs.State.{State, state}
@@ -20,6 +20,7 @@ use Rattle.calls.specs.declared.call.Call.the-variants.{Hypercall}
 use Rattle.history.specs.Sound.{SoundRecord, mayHold}
 use Rattle.history.proofs.StateWords.{own, look, index-same, index-below, at-most}
 use Rattle.history.proofs.WordsSound.{stateBy, WordsSound}
+use Rattle.history.proofs.RecordLaws.{guarded-flags}
 use Rattle.history.proofs.WordMoves.{GranulePut, granule-put}
 use Rattle.history.proofs.SameState.{Placed, placed, map-back}
 use Rattle.history.proofs.CallsDone.{asking, asking-fits, guard-leaves}
@@ -69,7 +70,7 @@ module _ (F W : ℕ) (bounds : lengthsHold F (8 * W) ≡ true) where
 
   module _ (s : State) (i : WordsSound F W s) (v g : ℕ) (slot : v < 8) (below : g < W) (e : look W s v g ≡ map-word.Guarded) where
     enrolled-run : (guestOf (s .monitor) v .enrolled ≡ true) × (guestOf (s .monitor) v .run ≡ true)
-    enrolled-run = both-true (guestOf (s .monitor) v .enrolled) (guestOf (s .monitor) v .run) (rw e at (i .holds v g slot below))
+    enrolled-run = guarded-flags (guestOf (s .monitor) v) (rw e at (i .holds v g slot below))
 
     has-run : guestOf (s .monitor) v .run ≡ true
     has-run = enrolled-run .1
