@@ -1,6 +1,6 @@
 -- A step that is taken, and a range of them, keep the invariant, and change the frames at these granules and no others.
 use mathlib.Core.Path.{_≡_, refl, sym, ap, _∙_}
-use mathlib.Core.Bool.{Bool, true, false, _&&_}
+use mathlib.Core.Bool.{Bool, true, false}
 use mathlib.Core.List.{List}
 use Prim.Native.Nat.{ℕ, suc, _+_, _<_}
 use native.Mathlib.Omega.{arith}
@@ -40,10 +40,7 @@ use Rattle.history.proofs.StepWrites.{step-wrote, without-frame, framed
 
 -- what a guest may make of its granules
 abbrev pub mayMake : Guest → Kind → Bool
-mayMake g Vacant = true
-mayMake g Private = g .live
-mayMake g Shared = g .run
-mayMake g Guarded = g .enrolled && g .run
+mayMake g k = mayHold g (stateBy (wordWith k 0))
 
 may-word : (guest : Guest) (k : Kind) (f : ℕ) → mayMake guest k ≡ true → mayHold guest (stateBy (wordWith k f)) ≡ true
 may-word guest Vacant f h = h

@@ -39,6 +39,8 @@ logs =
     ∷ case (began ++ (Donate 1 3 6 ∷ [])) 3 (donated 0 5) 0
     ∷ case (began ++ (Donate 0 11 5 ∷ [])) 11 neverDonated 1
     ∷ case (began ++ (asks 0 0xC6000003 5 1 ∷ [])) 3 (shared 0 5) 1
+    -- "Count 0 means 1 for share and unshare", and R1 is 1
+    ∷ case (began ++ (asks 0 0xC6000003 5 0 ∷ [])) 3 (shared 0 5) 1
     -- the upper half of R0 isn't looked at
     ∷ case (began ++ (asks 0 0x1C6000003 5 1 ∷ [])) 3 (shared 0 5) 1
     -- three granules asked for, of which the second has no frame: R1 is 1
@@ -64,10 +66,20 @@ logs =
     ∷ case (beganLegacy ++ (asks 0 0xC6000003 5 0 ∷ [])) 3 (shared 0 5) 1
     ∷ case (beganLegacy ++ (asks 0 0xC6000003 5 0 ∷ asks 0 0xC6000004 5 0 ∷ [])) 3 (unshared 0 5) 0
     ∷ case (beganLegacy ++ (asks 0 0xC6000009 5 0 ∷ [])) 3 relinquished 0
+    ∷ case (beganLegacy ++ (asks 0 0xC6000003 5 0 ∷ asks 0 0xC6000009 5 0 ∷ [])) 3 (shared 0 5) 1
     -- the granule after it is not
     ∷ case (beganLegacy ++ (Donate 0 8 6 ∷ asks 0 0xC6000003 5 0 ∷ [])) 8 (donated 0 6) 0
-    -- with a count it is refused
+    -- with a count they are refused, though the guest could have done one
     ∷ case (beganLegacy ++ (asks 0 0xC6000003 5 1 ∷ [])) 3 (donated 0 5) 0
+    ∷ case (beganLegacy ++ (asks 0 0xC6000003 5 0 ∷ asks 0 0xC6000004 5 1 ∷ [])) 3 (shared 0 5) 1
+    -- and before it has run, though it has enrolled
+    ∷ case (Create true ∷ Donate 0 3 5 ∷ asks 0 0xC6000003 5 0 ∷ []) 3 (donated 0 5) 0
+    -- its guarded granules have no frame
+    ∷ case (beganLegacy ++ (asks 0 0xC6000007 5 0 ∷ asks 0 0xC6000007 6 0 ∷ [])) 3 (donated 0 5) 0
+    -- when it is removed its frames wait, and the next guest there can be of the other kind
+    ∷ case (beganLegacy ++ (asks 0 0xC6000003 5 0 ∷ Remove 0 ∷ [])) 3 ownerRemoved 0
+    ∷ case (beganLegacy ++ (Remove 0 ∷ Cleared 3 ∷ [])) 3 cleared 1
+    ∷ case (beganLegacy ++ (Remove 0 ∷ Cleared 3 ∷ Create false ∷ Donate 0 3 5 ∷ Run 0 ∷ asks 0 0xC6000003 5 1 ∷ [])) 3 (shared 0 5) 1
     -- beside it a guest with ranges
     ∷ case (beganLegacy ++ (asks 0 0xC6000003 5 0 ∷ [])) 9 (donated 1 5) 0
     ∷ case (beganLegacy ++ (asks 1 0xC6000003 5 1 ∷ [])) 9 (shared 1 5) 1
