@@ -11,7 +11,7 @@ use Rattle.words.specs.declared.map_word.MapWord.{MapWord}
 use Rattle.words.specs.declared.map_word.MapWord.the-variants as map-word
 use Rattle.words.specs.declared.frame_word.FrameWord.{FrameWord}
 use Rattle.words.specs.declared.frame_word.FrameWord.the-variants as frame-word
-use Rattle.words.proofs.Booleans.{never, both-true}
+use Rattle.words.proofs.Booleans.{never}
 use Rattle.tables.specs.Length.{lengthsHold}
 use Rattle.records.specs.Monitor.{newGuest, guestOf}
 use Rattle.commands.specs.State.{State, state}
@@ -21,6 +21,7 @@ use Rattle.history.specs.Sound.{mayHold}
 use Rattle.history.proofs.StateWords.{own, look, width-is, at-most}
 use Rattle.history.proofs.WordsSound.{stateBy, Says, WordsSound}
 use Rattle.history.proofs.NamingPairs.{pair-named, pair-apart}
+use Rattle.history.proofs.RecordLaws.{guarded-flags}
 use Rattle.history.proofs.WordMoves.{FramePut, GranulePut, pair-put}
 use Rattle.history.proofs.SameState.{frame-back, map-back}
 use Rattle.history.proofs.CallsDone.{donate-leaves}
@@ -34,7 +35,7 @@ new-holds legacy d h f e = never (rw e at h)
 new-vacant : (legacy : Bool) (d : MapWord) → mayHold (newGuest legacy) (stateBy d) ≡ true → ((b : Bool) (f : ℕ) → d ≢ map-word.Frame b f) → d ≡ map-word.Vacant
 new-vacant legacy map-word.Vacant h n = refl
 new-vacant legacy (map-word.Frame b f) h n = absurd (n b f refl)
-new-vacant legacy map-word.Guarded h n = never (both-true legacy false h .1)
+new-vacant legacy map-word.Guarded h n = never (guarded-flags (newGuest legacy) h .1)
 new-vacant legacy map-word.Damaged h n = never h
 
 abbrev isOwned : FrameWord → Bool
