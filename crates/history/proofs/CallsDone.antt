@@ -111,8 +111,8 @@ module _ {F W : ℕ} {s : State} (i : WordsSound F W s) (v : ℕ) (live : guestO
   enroll-leaves ranged = rw (lengths-hold (i .sized), lives (s .monitor) v, live, has-run, ranged)
 
   -- such a call leaves the tables of its one step
-  one-leaves : (number g : ℕ) (o : Operation) (w : CallRow) → rowFor (asking number g) (guestOf (s .monitor) v) ≡ w → AsksOne w g (guestOf (s .monitor) v) o
-      → (map frames : List ℕ) → tableStep o v (place (s .map) (s .frames) g) ≡ took (place map frames (suc g))
+  one-leaves : (number g : ℕ) (o : Operation) (w : CallRow) → rowFor (asking number g) (guestOf (s .monitor) v) ≡ w
+      → AsksOne w g (guestOf (s .monitor) v) o → (map frames : List ℕ) → tableStep o v (place (s .map) (s .frames) g) ≡ took (place map frames (suc g))
       → step (Hypercall v (asking number g)) s .left ≡ state frames map (s .monitor)
   unfolding step actOf
   one-leaves number g o w row k map frames e =

@@ -99,21 +99,26 @@ module _ {F W : ℕ} {s : State} (i : WordsSound F W s) (v : ℕ) (r : Registers
     moves-kept made o n may same logged e =
         change-kept i v slot r asked is o e (isTold n) (min rangeLimit (granulesOf n (r .r2))) may
         (λ j l map frames next at f k x h.
-        moved i v slot r asked is o (suc j) (suc j) made refl same map frames next at f k x h ∙ ap ownerAfter (sym (logged j l (granuleOf (r .r1)) x)))
+        moved i v slot r asked is o (suc j) (suc j) made refl same map frames next at f k x h
+        ∙ ap ownerAfter (sym (logged j l (granuleOf (r .r1)) x)))
 
     -- granules without
-    guards-kept : (o : Operation) (n : Count) → Unlogged → mayMake guest (o .makes) ≡ true → hasFrame (o .needs) ≡ false → (e : Error) → Kept e (action.Change o n)
+    guards-kept : (o : Operation) (n : Count) → Unlogged → mayMake guest (o .makes) ≡ true → hasFrame (o .needs) ≡ false
+        → (e : Error) → Kept e (action.Change o n)
     unfolding actOf
     guards-kept o n quiet may bare e =
         change-kept i v slot r asked is o e (isTold n) (min rangeLimit (granulesOf n (r .r2))) may
         (λ j l map frames next at f k x h.
-        unmoved i v slot r asked is o (suc j) bare map frames next at f k x h ∙ ap ownerAfter (sym (quiet (granuleOf (r .r1)) (cond (isTold n) (suc j) 0) x)))
+        unmoved i v slot r asked is o (suc j) bare map frames next at f k x h
+        ∙ ap ownerAfter (sym (quiet (granuleOf (r .r1)) (cond (isTold n) (suc j) 0) x)))
 
   -- what each row does where nothing bars it
   abbrev RowKept : CallRow → Type 0
   RowKept w = permits (w .condition) guest ≡ true → Kept (w .error) (w .action)
 
-  of-either : (asked : Function) → (guest .legacy ≡ true → RowKept (legacyRowOf asked)) → RowKept (rangedRowOf asked) → RowKept (callRowOf (guest .legacy) asked)
+  -- in either table
+  of-either : (asked : Function) → (guest .legacy ≡ true → RowKept (legacyRowOf asked)) → RowKept (rangedRowOf asked)
+      → RowKept (callRowOf (guest .legacy) asked)
   of-either asked legacy ranged = on (guest .legacy) refl
     where
       on : (b : Bool) → guest .legacy ≡ b → RowKept (callRowOf b asked)
@@ -139,9 +144,12 @@ module _ {F W : ℕ} {s : State} (i : WordsSound F W s) (v : ℕ) (r : Registers
       let guards : guest .enrolled ≡ true → (e : Error) → Kept e (action.Change guarding One) =
       λ enrolled. guards-kept GuardMap is guarding One (λ g n x. refl) (rw (enrolled, has-run)) refl in
       of-either GuardMap (λ k may. guards (i .records v slot .legacy k) _) (λ may. guards may _)
-  function-kept GuardUnmap is = of-either GuardUnmap (λ k may. refuses-kept _) (λ may. guards-kept GuardUnmap is unguarding One (λ g n x. refl) refl refl _)
+  function-kept GuardUnmap is =
+      of-either GuardUnmap (λ k may. refuses-kept _) (λ may. guards-kept GuardUnmap is unguarding One (λ g n x. refl) refl refl _)
   function-kept Relinquish is =
-      let gives = moves-kept Relinquish is (λ u h. relinquished) relinquishing One refl (λ u h. refl) (λ j l g x. let one : suc j ≡ 1 = omega arith in rw one) in
+      let gives = moves-kept Relinquish is (λ u h. relinquished) relinquishing One refl (λ u h. refl) (λ j l g x.
+      let one : suc j ≡ 1 = omega arith in
+      rw one) in
       of-either Relinquish (λ k may. gives _) (λ may. gives _)
   function-kept RangeGuardMap is =
       of-either RangeGuardMap (λ k may. refuses-kept _) (λ may. guards-kept RangeGuardMap is guarding Asked (λ g n x. refl) (rw (may, has-run)) refl _)

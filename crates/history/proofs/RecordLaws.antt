@@ -97,9 +97,10 @@ abbrev pub joined : Bool → ℕ → Bool → Bool → Guest
 joined legacy x a b = cond b (enroll (started legacy x a)) (started legacy x a)
 
 -- a legacy guest has enrolled since it was created
-pub joined-since : (x : ℕ) (a : Bool) → joined true x a true ≡ started true x a
-joined-since x true = refl
-joined-since x false = refl
+pub joined-since : (legacy : Bool) → legacy ≡ true → (x : ℕ) (a : Bool) → joined legacy x a true ≡ started legacy x a
+joined-since true e x true = refl
+joined-since true e x false = refl
+joined-since false e x a = never e
 
 joined-is : (legacy : Bool) (x : ℕ) (a b : Bool) → (legacy ≡ true → b ≡ true) → joined legacy x a b ≡ guestAs legacy a b x
 joined-is legacy x true true k = refl

@@ -32,7 +32,8 @@ use Rattle.history.proofs.UndoCreations.{IsNew, new-reached}
 new-holds : (legacy : Bool) (d : MapWord) → mayHold (newGuest legacy) (stateBy d) ≡ true → (f : ℕ) → d ≢ map-word.Frame true f
 new-holds legacy d h f e = never (rw e at h)
 
-new-vacant : (legacy : Bool) (d : MapWord) → mayHold (newGuest legacy) (stateBy d) ≡ true → ((b : Bool) (f : ℕ) → d ≢ map-word.Frame b f) → d ≡ map-word.Vacant
+new-vacant : (legacy : Bool) (d : MapWord) → mayHold (newGuest legacy) (stateBy d) ≡ true → ((b : Bool) (f : ℕ) → d ≢ map-word.Frame b f)
+    → d ≡ map-word.Vacant
 new-vacant legacy map-word.Vacant h n = refl
 new-vacant legacy (map-word.Frame b f) h n = absurd (n b f refl)
 new-vacant legacy map-word.Guarded h n = never (guarded-flags (newGuest legacy) h .1)
@@ -49,7 +50,8 @@ module _ (F W : ℕ) (bounds : lengthsHold F (8 * W) ≡ true) where
   AllNew s = (v : ℕ) → v < 8 → IsNew (guestOf (s .monitor) v)
 
   -- what such a guest holds
-  held : (s : State) → WordsSound F W s → AllNew s → (v g : ℕ) → v < 8 → g < W → mayHold (newGuest (guestOf (s .monitor) v .legacy)) (stateBy (look W s v g)) ≡ true
+  held : (s : State) → WordsSound F W s → AllNew s → (v g : ℕ) → v < 8 → g < W
+      → mayHold (newGuest (guestOf (s .monitor) v .legacy)) (stateBy (look W s v g)) ≡ true
   held s i new v g h l = subst (λ x. mayHold x (stateBy (look W s v g)) ≡ true) (new v h) (i .holds v g h l)
 
   none-owned-reached : (s : State) → WordsSound F W s → AllNew s → ((f : ℕ) → f < F → isOwned (own s f) ≡ false) → Reached F W s

@@ -43,8 +43,14 @@ plain-held g map-word.Damaged live h = never h
 abbrev pub Plain : ℕ → State → Type 0
 Plain W s = (v g : ℕ) → v < 8 → g < W → mayHold (newGuest false) (stateBy (look W s v g)) ≡ true
 
--- the record of slot n, by the calls that make it of a new one
-module _ (F W : ℕ) (s : State) (i : WordsSound F W s) (plain : Plain W s) (n : ℕ) (slot : n < 8) (legacy : Bool) where
+-- the record of slot n, by the calls that make it of a new one of its kind
+module _ (F W : ℕ) (s : State) (i : WordsSound F W s) (plain : Plain W s) (n : ℕ) (slot : n < 8) where
+  abbrev guest : Guest
+  guest = guestOf (s .monitor) n
+
+  abbrev legacy : Bool
+  legacy = guest .legacy
+
   abbrev new : Guest
   new = newGuest legacy
 
@@ -82,10 +88,10 @@ module _ (F W : ℕ) (s : State) (i : WordsSound F W s) (plain : Plain W s) (n :
       (run-leaves (having-sound r (written-sound x h) refl) n (ap (λ (g : Guest). g .live) (guest-is r)) ∙ having-then markRun r)
   started-reached x h false reached = reached
 
-  -- a call enrolls a guest of the one kind; of the other there is nothing to do
+  -- a call enrolls a guest with ranges
   joined-reached : (kind : Bool) → legacy ≡ kind → (x : ℕ) → x ≤ 1 → (a b : Bool) → (b ≡ true → a || legacy ≡ true)
       → Reached F W (having (started legacy x a)) → Reached F W (having (joined legacy x a b))
-  joined-reached true is x h a true k reached = rw is (rw (joined-since x a) (rw is at reached))
+  joined-reached true is x h a true k reached = rw (joined-since legacy is x a) reached
   joined-reached false is x h true true k reached =
       let r = markRun (written legacy x) in
       reached-next reached (Hypercall n (asking 0xC6000006 0)) (asking-fits n 0xC6000006 0 (omega arith) (omega arith) (omega arith))
@@ -95,9 +101,19 @@ module _ (F W : ℕ) (s : State) (i : WordsSound F W s) (plain : Plain W s) (n :
   joined-reached false is x h false true k reached = never (sym is ∙ k refl)
   joined-reached kind is x h a false k reached = reached
 
+  -- a live guest
+  live-reached : guest .live ≡ true → Reached F W (having new) → Reached F W s
+  live-reached live reached =
+      let k = i .records n slot in
+      let x = guest .«vendor_hyp» in
+      let few : x ≤ 1 = leb-true x 1 (k .limit) in
+      let ran = started-reached x few (guest .run) (written-reached x few reached) in
+      let all = joined-reached legacy refl x few (guest .run) (guest .enrolled) (k .enrolled) ran in
+      rw (record-is guest live k, guest-same (s .monitor) n guest slot refl) at all
+
   -- a slot without a guest
-  module _ (dead : guestOf (s .monitor) n .live ≡ false) where
-    none : guestOf (s .monitor) n ≡ zeroGuest
+  module _ (dead : guest .live ≡ false) where
+    none : guest ≡ zeroGuest
     none = i .records n slot .dead dead
 
     removed-is : effected n (having new) (removed (viewOf n (having new))) .left ≡ s
@@ -107,43 +123,27 @@ module _ (F W : ℕ) (s : State) (i : WordsSound F W s) (plain : Plain W s) (n :
         (guest-back (s .monitor) n new zeroGuest slot none)
 
     dead-reached : Reached F W (having new) → Reached F W s
-    dead-reached reached = reached-next reached (Remove n) (omega arith, tt) (remove-leaves new-guest-sound n (ap (λ (g : Guest). g .live) (guest-is new)) ∙ removed-is)
+    dead-reached reached =
+        reached-next reached (Remove n) (omega arith, tt) (remove-leaves new-guest-sound n (ap (λ (g : Guest). g .live) (guest-is new)) ∙ removed-is)
 
--- a live guest
-module _ (F W : ℕ) (s : State) (i : WordsSound F W s) (plain : Plain W s) (n : ℕ) (slot : n < 8) where
-  abbrev guest : Guest
-  guest = guestOf (s .monitor) n
-
-  abbrev kind : Bool
-  kind = guest .legacy
-
-  live-reached : guest .live ≡ true → Reached F W (having F W s i plain n slot kind (newGuest kind)) → Reached F W s
-  live-reached live reached =
-      let k = i .records n slot in
-      let x = guest .«vendor_hyp» in
-      let few : x ≤ 1 = leb-true x 1 (k .limit) in
-      let first = written-reached F W s i plain n slot kind x few reached in
-      let second = started-reached F W s i plain n slot kind x few (guest .run) first in
-      let all = joined-reached F W s i plain n slot kind kind refl x few (guest .run) (guest .enrolled) (k .enrolled) second in
-      rw (record-is guest live k, guest-same (s .monitor) n guest slot refl) at all
-
-  slot-reached : (b : Bool) → guest .live ≡ b → Reached F W (having F W s i plain n slot kind (newGuest kind)) → Reached F W s
+  slot-reached : (b : Bool) → guest .live ≡ b → Reached F W (having new) → Reached F W s
   slot-reached true e reached = live-reached e reached
-  slot-reached false e reached = dead-reached F W s i plain n slot kind e reached
+  slot-reached false e reached = dead-reached e reached
 
 module _ (F W : ℕ) (bounds : lengthsHold F (8 * W) ≡ true) where
-  records-reached : (n : ℕ) → n ≤ 8 → (s : State) → WordsSound F W s → Plain W s → ((v : ℕ) → v < 8 → n ≤ v → IsNew (guestOf (s .monitor) v)) → Reached F W s
+  records-reached : (n : ℕ) → n ≤ 8 → (s : State) → WordsSound F W s → Plain W s
+      → ((v : ℕ) → v < 8 → n ≤ v → IsNew (guestOf (s .monitor) v)) → Reached F W s
   unfolding look
-  records-reached zero l s i plain new = all-new-reached F W bounds s i (λ v h. new v h (omega arith))
-  records-reached (suc n) l s i plain new =
+  records-reached zero l s i plain are-new = all-new-reached F W bounds s i (λ v h. are-new v h (omega arith))
+  records-reached (suc n) l s i plain are-new =
       let slot : n < 8 = omega arith in
-      let legacy = guestOf (s .monitor) n .legacy in
-      let t = state (s .frames) (s .map) (withGuest (s .monitor) n (newGuest legacy)) in
+      let r = new F W s i plain n slot in
+      let t = having F W s i plain n slot r in
       slot-reached F W s i plain n slot (guestOf (s .monitor) n .live) refl
-      (records-reached n (omega arith) t (new-guest-sound F W s i plain n slot legacy) plain (λ v h m.
+      (records-reached n (omega arith) t (new-guest-sound F W s i plain n slot) plain (λ v h m.
       at-or-not (λ u. u < 8 → n ≤ u → IsNew (guestOf (t .monitor) u)) n v
-      (λ a b. subst IsNew (sym (guest-is F W s i plain n slot legacy (newGuest legacy))) refl)
-      (λ q a b. subst IsNew (sym (guest-other (s .monitor) n v (newGuest legacy) q)) (new v a (omega arith)))
+      (λ a b. subst IsNew (sym (guest-is F W s i plain n slot r)) refl)
+      (λ q a b. subst IsNew (sym (guest-other (s .monitor) n v r q)) (are-new v a (omega arith)))
       h m))
 
   pub plain-reached : (s : State) → WordsSound F W s → Plain W s → Reached F W s
