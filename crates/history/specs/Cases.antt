@@ -69,12 +69,12 @@ logs =
     ∷ case (beganLegacy ++ (asks 0 0xC6000003 5 0 ∷ asks 0 0xC6000009 5 0 ∷ [])) 3 (shared 0 5) 1
     -- the granule after it is not
     ∷ case (beganLegacy ++ (Donate 0 8 6 ∷ asks 0 0xC6000003 5 0 ∷ [])) 8 (donated 0 6) 0
-    -- with a count they are refused, though the guest could have done one
+    -- with a count they are refused
     ∷ case (beganLegacy ++ (asks 0 0xC6000003 5 1 ∷ [])) 3 (donated 0 5) 0
     ∷ case (beganLegacy ++ (asks 0 0xC6000003 5 0 ∷ asks 0 0xC6000004 5 1 ∷ [])) 3 (shared 0 5) 1
-    -- and before it has run, though it has enrolled
+    -- so is a share before it has run, though it has enrolled
     ∷ case (Create true ∷ Donate 0 3 5 ∷ asks 0 0xC6000003 5 0 ∷ []) 3 (donated 0 5) 0
-    -- its guarded granules have no frame
+    -- a granule that it guards has no frame
     ∷ case (beganLegacy ++ (asks 0 0xC6000007 5 0 ∷ asks 0 0xC6000007 6 0 ∷ [])) 3 (donated 0 5) 0
     -- when it is removed its frames wait, and the next guest there can be of the other kind
     ∷ case (beganLegacy ++ (asks 0 0xC6000003 5 0 ∷ Remove 0 ∷ [])) 3 ownerRemoved 0
