@@ -1,6 +1,7 @@
 ghost use mathlib.Core.Path.{_≡_};
 ghost use Rattle.words.specs.Granule.{granuleSize};
 ghost use Rattle.granules.specs.Kind.{operation};
+ghost use Rattle.functions.specs.Function.{askedBy};
 ghost use Rattle.functions.specs.declared.rules.Rule.the-variants.{Any, Zero, Base};
 ghost use Rattle.functions.specs.declared.rules.Condition.the-variants.{Nothing, Enrolment};
 ghost use Rattle.functions.specs.declared.rules.Error.the-variants.{NotSupported, InvalidParameter};
@@ -68,14 +69,14 @@ impl Count {
 }
 
 impl CallRow {
-    // The row of a call, in the table of the caller's kind.
-    pub fn of(legacy: bool, function: Function) -> CallRow
-        ensures { λ r. ⌜ r ≡ callRowOf legacy function ⌝ }
+    // The row of the call that R0 asks for, in the table of the caller's kind.
+    pub fn of(legacy: bool, r0: u64) -> CallRow
+        ensures { λ r. ⌜ r ≡ callRowOf legacy (askedBy r0) ⌝ }
     {
         if legacy {
-            CallRow::legacy(function)
+            CallRow::legacy(Function::asked(r0))
         } else {
-            CallRow::ranged(function)
+            CallRow::ranged(Function::asked(r0))
         }
     }
 

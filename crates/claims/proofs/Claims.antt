@@ -82,8 +82,8 @@ module _ (c : RangeCall) (r0 : ℕ → ℕ) (number : (a : ℕ) → r0 a % 2 ^ 3
       → (carriedOn r0 v r3 ms (at b s) ≡ singleSteps c v r3 (sum ms) (at b s)) × CountsChanges s (carriedOn r0 v r3 ms (at b s))
   pieces-are-single-steps ms =
       let same =
-          pieces-run (NotLegacy v) (singleStep c v r3) (not-legacy-kept c v r3) rangeLimit (omega arith) (callAt r0 v r3)
-          (call-agrees c r0 number v r3) ms (at b s) ranged in
+      pieces-run (NotLegacy v) (singleStep c v r3) (not-legacy-kept c v r3) rangeLimit (omega arith) (callAt r0 v r3)
+      (call-agrees c r0 number v r3) ms (at b s) ranged in
       (same, rw same (single-steps-count c v r3 s (sum ms) b))
 
   -- carrying on comes to an end: it is complete or refused

@@ -1,10 +1,11 @@
 -- A call decided on the record that words say, with its change and its answer put back as words, is the call on what is lent.
 use mathlib.Core.Path.{_≡_, refl, ap, sym, _∙_}
+use mathlib.Core.Bool.{false}
 use mathlib.Core.List.{List}
 use Prim.Native.Nat.{ℕ}
 use Rattle.answers.specs.Answer.{numbersOf}
 use Rattle.records.specs.Monitor.{guestOf}
-use Rattle.records.specs.Change.{withChange}
+use Rattle.records.specs.Change.{alters, withChange}
 use Rattle.records.specs.declared.guest.Guest.{Guest}
 use Rattle.records.specs.declared.change.Change.{Change}
 use Rattle.records.specs.declared.change.Change.the-variants.{Kept}
@@ -42,6 +43,10 @@ module _ (k : Command) (w f m : List ℕ) (v : ℕ) (n : v ≡ slotNumber (k .sl
   where
     pub lent-put : (w′ : List ℕ) → w′ ≡ wordsAfter w (withChange (monitorIn w) v (d .change)) → lent w′ f′ m′ a′ ≡ lentAfter (performed k) w f m
     lent-put w′ put = rw (put, told) (lent-done (performed k) w f m _ (applying k (state f m (monitorIn w)) v g (result f′ m′ d) n e h))
+
+    -- a change that alters no record leaves every word
+    pub lent-unaltered : alters (d .change) ≡ false → lent w f′ m′ a′ ≡ lentAfter (performed k) w f m
+    lent-unaltered same = lent-put w (rw same (sym (records-kept w)))
 
     -- with no word of the records written
     pub lent-kept : changeBy (effectOf k (view f m v g)) ≡ Kept → lent w f′ m′ a′ ≡ lentAfter (performed k) w f m

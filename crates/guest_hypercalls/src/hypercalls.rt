@@ -14,7 +14,6 @@ use commands::Admission;
 use commands::Decision;
 use commands::Reply;
 use functions::Error;
-use functions::Function;
 use functions::Registers;
 use guest_callers::caller_admission;
 use records::Change;
@@ -51,7 +50,7 @@ pub fn decide_hypercall(
     match caller_admission(frames, map, slot, guest) {
         Admission::Refused(answer) => Decision::keep(answer),
         Admission::Passed => {
-            let row = CallRow::of(guest.legacy, Function::asked(registers.r0));
+            let row = CallRow::of(guest.legacy, registers.r0);
             let error = row.error;
             let action = row.action;
             match row_admission(row, registers, guest) {
@@ -88,9 +87,14 @@ fn act(
             answer: Answer::returned(0, 0),
         },
         Action::Change { operation, count } => {
-            let granules = count.granules(registers.r2);
-            let progress = change_row(frames, map, slot, registers.r1, granules, operation);
-            Decision::keep(answer_of(progress, count.is_told(), error))
+            // Granules up to a count, told in R1; or one, of which nothing is told.
+            if count.is_told() {
+                let granules = count.granules(registers.r2);
+                let progress = change_row(frames, map, slot, registers.r1, granules, operation);
+                return Decision::keep(answer_of(progress, true, error));
+            }
+            let progress = change_row(frames, map, slot, registers.r1, 1, operation);
+            Decision::keep(answer_of(progress, false, error))
         }
     }
 }
