@@ -51,7 +51,7 @@ use Rattle.claims.specs.HostCalls.{SevenExactly, RowOrEmpty, CountsFrame
 use Rattle.claims.specs.Cases.{cases}
 use Rattle.claims.specs.HostCases.{hostCases, hostLeft, rowsShown}
 use Rattle.claims.specs.GuestCases.{guestCases, guestLeft}
-use Rattle.claims.specs.LegacyCases.{legacyCases, legacyLeft, leftOut}
+use Rattle.claims.specs.LegacyCases.{legacyCases, legacyLeft, leftOut, legacySteps}
 use Rattle.claims.proofs.LowHalf.{low-half}
 use Rattle.claims.proofs.CallAgrees.{NotLegacy, not-legacy-kept, call-agrees}
 use Rattle.claims.proofs.Changes.{single-steps-count}
@@ -164,7 +164,7 @@ unfolding step donateOf runOf removeOf clearedOf hostAccessOf registerReadOf reg
 guest-case-table = (refl, refl)
 
 -- and of guests that know no ranges: every row of their own table, their aborts before and after run, their creation, and one beside a guest with
--- ranges; what they leave; and whom condition 3 leaves out
-pub legacy-case-table : AsExpected legacyCases × (AsExpected legacyLeft × AsExpected leftOut)
+-- ranges; what they leave; whom condition 3 leaves out; and their single steps
+pub legacy-case-table : AsExpected legacyCases × (AsExpected legacyLeft × (AsExpected leftOut × AsExpected legacySteps))
 unfolding step createOf freeFrom donateOf runOf removeOf clearedOf hostAccessOf registerReadOf registerWriteOf registerNumbered hypercallOf abortOf actOf guestAccessOf functionOf rangedRowOf legacyRowOf stepFrom changeOf rowVacant undamagedFrom framesFreed framesNamed boundsOf granuleState pairAt frameState pairOf mapWordOf frameWordOf mapBits frameBits numbersOf guestOf withGuest framesHold mapHolds
-legacy-case-table = (refl, (refl, refl))
+legacy-case-table = (refl, (refl, (refl, refl)))

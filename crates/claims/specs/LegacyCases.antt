@@ -4,18 +4,22 @@ use mathlib.Core.Bool.{Bool, true, false}
 use mathlib.Core.List.{List, [], _∷_, _++_, map}
 use Prim.Native.Nat.{ℕ, _*_, _-_, _^_}
 use lib.ListN.{replicate}
+use Rattle.runs.specs.Run.{Step, took, refuses}
 use Rattle.runs.specs.Worked.{Case}
 use Rattle.records.specs.Monitor.{withFlags, withBitmaps, zeroGuest, newGuest, markRun, fresh, withGuest}
 use Rattle.answers.specs.Answer.{numbers, verdictWith}
 use Rattle.commands.specs.State.{State, state}
 use Rattle.answers.specs.declared.answer.Numbers.{Numbers}
 use Rattle.functions.specs.Rules.{registers}
+use Rattle.guest_hypercalls.specs.Calls.{hypercallOf}
 use Rattle.calls.specs.Step.{freshState}
 use Rattle.calls.specs.declared.call.Call.{Call}
 use Rattle.calls.specs.declared.call.Call.the-variants.{Create, Donate, Run, Remove, Cleared, Access, RegisterRead, RegisterWrite, Hypercall, Abort}
 use Rattle.claims.specs.Case.{case, leaves}
 use Rattle.claims.specs.Cases.{returnsDone, returnsError}
+use Rattle.claims.specs.SingleSteps.{At, at}
 use Rattle.claims.specs.Pieces.{liveLegacy}
+use Rattle.claims.specs.LegacyCalls.{LegacyCall, legacyShare, legacyUnshare, legacyGuardMap, legacyNumber, legacyStep, readOne}
 use Rattle.claims.specs.HostCases.{sound, damaged, noFrames}
 use Rattle.claims.specs.GuestCases.{guestFrames, guestRow, mapWith, callerOf, stateOf, asks, each, unsupported, otherNumbers, uidAnswer, featuresAnswer, isDamage, aborts, exits, resumes, excepts, leftOf}
 
@@ -230,3 +234,41 @@ leftOut =
     ∷ record { found = liveLegacy 11 legacy; expected = false }
     ∷ record { found = liveLegacy 3 (stateOf false true 0); expected = false }
     ∷ []
+
+-- the one step of a call of slot v at b with R2 and R3, and the call itself
+abbrev stepCase : LegacyCall → State → ℕ → ℕ → ℕ → ℕ → Step At Numbers → Case (Step At Numbers × Step At Numbers)
+stepCase c s v b r2 r3 o =
+    record {
+      found = (legacyStep c v r2 r3 (at b s), readOne b (hypercallOf v (registers (legacyNumber c) b r2 r3) s));
+      expected = (o, o)
+    }
+
+-- refused with −3 by slot 3, each at these bases with R2 and R3 zero
+abbrev refusedAt : LegacyCall → List ℕ → List (Case (Step At Numbers × Step At Numbers))
+refusedAt c bs = map (λ b. stepCase c legacy 3 b 0 0 (refuses (returnsError 3))) bs
+
+-- each step with each of its tests, and where two fail the first
+abbrev pub legacySteps : List (Case (Step At Numbers × Step At Numbers))
+legacySteps =
+    stepCase legacyShare cutLegacy 4 1 1 1 (refuses (verdictWith 1 0))
+    ∷ stepCase legacyShare legacy 4 1 1 1 (refuses (verdictWith 2 0))
+    ∷ stepCase legacyShare legacy 5 0 0 0 (refuses (verdictWith 2 0))
+    ∷ stepCase legacyShare legacy 2 1 1 1 (refuses (verdictWith 3 0))
+    ∷ stepCase legacyShare legacy 3 0x6001 0 0 (refuses (returnsError 3))
+    ∷ stepCase legacyShare legacy 3 0x6000 1 0 (refuses (returnsError 3))
+    ∷ stepCase legacyShare legacy 3 0x6000 0 1 (refuses (returnsError 3))
+    ∷ stepCase legacyShare legacy 3 0x6000 0 0 (refuses (verdictWith 6 0))
+    ∷ stepCase legacyUnshare legacy 3 0x6000 0 0 (refuses (verdictWith 6 0))
+    ∷ stepCase legacyGuardMap legacy 3 0x6000 0 0 (refuses (verdictWith 6 0))
+    ∷ stepCase legacyShare legacy 3 0x4000 0 0
+    (took (at 0x5000 (state (0x04000000 ∷ 0x04010001 ∷ 0 ∷ 0xFF000000 ∷ 0x04010004 ∷ 0x04000005 ∷ 0 ∷ 0x04000007 ∷ [])
+    (mapWith (0x40000000 ∷ 0x80000001 ∷ 0 ∷ 0xC0000000 ∷ 0x80000004 ∷ 0x40000005 ∷ 0x40000002 ∷ 0x40000007 ∷ [])) (legacy .monitor))))
+    ∷ stepCase legacyUnshare legacy 3 0x1000 0 0
+    (took (at 0x2000 (state (0x04000000 ∷ 0x04000001 ∷ 0 ∷ 0xFF000000 ∷ 0x04000004 ∷ 0x04000005 ∷ 0 ∷ 0x04000007 ∷ [])
+    (mapWith (0x40000000 ∷ 0x40000001 ∷ 0 ∷ 0xC0000000 ∷ 0x40000004 ∷ 0x40000005 ∷ 0x40000002 ∷ 0x40000007 ∷ [])) (legacy .monitor))))
+    ∷ stepCase legacyGuardMap unenrolled 3 0x2000 0 0
+    (took (at 0x3000 (state guestFrames
+    (mapWith (0x40000000 ∷ 0x80000001 ∷ 0xC0000000 ∷ 0xC0000000 ∷ 0x40000004 ∷ 0x40000005 ∷ 0x40000002 ∷ 0x40000007 ∷ [])) (unenrolled .monitor))))
+    ∷ []
+    ++ (refusedAt legacyShare (0x1000 ∷ 0x2000 ∷ 0x3000 ∷ 0x8000 ∷ []) ++ (refusedAt legacyUnshare (0 ∷ 0x2000 ∷ 0x3000 ∷ 0x8000 ∷ [])
+    ++ refusedAt legacyGuardMap (0 ∷ 0x1000 ∷ 0x3000 ∷ 0x8000 ∷ [])))

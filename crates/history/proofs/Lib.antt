@@ -5,6 +5,7 @@ pub mod FramesAtGranules
 -- The invariant, and the moves that keep it.
 pub mod WordsSound
 pub mod SoundLaws
+pub mod SoundCases
 pub mod WordMoves
 pub mod RecordMoves
 pub mod RecordLaws
