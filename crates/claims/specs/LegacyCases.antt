@@ -9,6 +9,7 @@ use Rattle.runs.specs.Worked.{Case}
 use Rattle.records.specs.Monitor.{withFlags, withBitmaps, zeroGuest, newGuest, markRun, fresh, withGuest}
 use Rattle.answers.specs.Answer.{numbers, verdictWith}
 use Rattle.commands.specs.State.{State, state}
+use Rattle.records.specs.declared.guest.Guest.{Guest}
 use Rattle.answers.specs.declared.answer.Numbers.{Numbers}
 use Rattle.functions.specs.Rules.{registers}
 use Rattle.guest_hypercalls.specs.Calls.{hypercallOf}
@@ -47,6 +48,7 @@ legacyTells =
     ∷ case (stateOf true true 0) [] (asks 0x8600FF01 1 2 3) (returnsError 1)
     ∷ case (stateOf true true 1) [] (asks 0x8600FF01 1 2 3) uidAnswer
     ∷ case legacy [] (asks 0xC6000002 0 0 0) (verdictWith 10 4096)
+    ∷ case unenrolled [] (asks 0xC6000002 0 0 0) (verdictWith 10 4096)
     ∷ case legacy [] (asks 0xC6000002 1 0 0) (returnsError 3)
     ∷ case legacy [] (asks 0xC6000002 0 (2 ^ 32) 0) (returnsError 3)
     ∷ case legacy [] (asks 0xC6000002 0 0 1) (returnsError 3)
@@ -68,6 +70,7 @@ legacyShares =
     ∷ case legacy [] (asks 0xC6000003 0x6000 1 0) (returnsError 3)
     ∷ case unenrolled [] (asks 0xC6000003 0 0 0) (returnsDone 0)
     ∷ case legacy [] (asks 0xC6000004 0x1000 0 0) (returnsDone 0)
+    ∷ case unenrolled [] (asks 0xC6000004 0x1000 0 0) (returnsDone 0)
     ∷ case legacy (asks 0xC6000004 0x1000 0 0 ∷ []) (Access 1) (verdictWith 0 0)
     ∷ case legacy (asks 0xC6000003 0x4000 0 0 ∷ asks 0xC6000003 0x5000 0 0 ∷ asks 0xC6000004 0x4000 0 0 ∷ []) (Access 5) (verdictWith 0 1)
     ∷ case legacy [] (asks 0xC6000004 0x1000 1 0) (returnsError 3)
@@ -103,6 +106,7 @@ legacyGuards =
 abbrev pub legacyRelinquishes : List (Case Numbers)
 legacyRelinquishes =
     case legacy [] (asks 0xC6000009 0 0 0) (returnsDone 0)
+    ∷ case unenrolled [] (asks 0xC6000009 0 0 0) (returnsDone 0)
     ∷ case legacy (asks 0xC6000009 0 0 0 ∷ []) (Abort 3 0) (verdictWith 12 0)
     ∷ case legacy (asks 0xC6000009 0 0 0 ∷ []) (Cleared 0) (verdictWith 0 0)
     ∷ case legacy [] (asks 0xC6000009 0 1 0) (returnsError 3)
@@ -199,6 +203,10 @@ legacyCases =
     ++ (legacyShares
     ++ (legacyGuards ++ (legacyRelinquishes ++ (legacyUnsupported ++ (legacyCallers ++ (legacyAborts ++ legacyCreations))))))
 
+-- one frame, one granule a slot, and a guest in slot 0
+abbrev pub alone : Guest → State
+alone g = state (0 ∷ []) (replicate 8 0) (withGuest fresh 0 g)
+
 -- what these calls leave: both tables and the records
 abbrev pub legacyLeft : List (Case State)
 legacyLeft =
@@ -214,13 +222,15 @@ legacyLeft =
     (0xFF000000 ∷ 0x04010001 ∷ 0 ∷ 0xFF000000 ∷ 0x04000004 ∷ 0x04000005 ∷ 0 ∷ 0x04000007 ∷ [])
     (0 ∷ 0x80000001 ∷ 0 ∷ 0xC0000000 ∷ 0x40000004 ∷ 0x40000005 ∷ 0x40000002 ∷ 0x40000007 ∷ [])
     ∷ leaves unenrolled (asks 0xC6000006 0 0 0 ∷ asks 0xC6000003 0 1 0 ∷ asks 0xC600000A 0x2000 1 0 ∷ []) unenrolled
-    -- the record that creation sets, and run and a register's write keep its kind
+    -- the record that creation sets, and run and a register's write keep its kind; the write also where a guest with ranges has enrolled
     ∷ leaves (freshState 1 1) (Create true ∷ Create false ∷ [])
     (state (0 ∷ []) (replicate 8 0) (record { guests = newGuest true ∷ newGuest false ∷ replicate 6 zeroGuest }))
     ∷ leaves (freshState 1 1) (Create true ∷ [])
-    (state (0 ∷ []) (replicate 8 0) (withGuest fresh 0 (withFlags true true false true (withBitmaps 0 0 1 zeroGuest))))
+    (alone (withFlags true true false true (withBitmaps 0 0 1 zeroGuest)))
     ∷ leaves (freshState 1 1) (Create true ∷ RegisterWrite 0 2 0 ∷ Run 0 ∷ [])
-    (state (0 ∷ []) (replicate 8 0) (withGuest fresh 0 (withFlags true true true true zeroGuest)))
+    (alone (withFlags true true true true zeroGuest))
+    ∷ leaves (alone (withFlags true false false true zeroGuest)) (RegisterWrite 0 2 1 ∷ [])
+    (alone (withFlags true false false true (withBitmaps 0 0 1 zeroGuest)))
     ∷ leaves (freshState 1 1) (Create true ∷ Run 0 ∷ Remove 0 ∷ []) (freshState 1 1)
     ∷ leaves (freshState 9 8) (Create true ∷ Create false ∷ Donate 0 3 5 ∷ Donate 0 4 6 ∷ Donate 1 7 5 ∷ Donate 1 8 6 ∷ Run 0 ∷ Run 1 ∷ []) beside
     ∷ []

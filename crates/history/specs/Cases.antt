@@ -52,6 +52,8 @@ logs =
     -- the same granule of another guest
     ∷ case (began ++ (asks 0 0xC6000003 5 1 ∷ [])) 9 (donated 1 5) 0
     ∷ case (began ++ (asks 0 0xC6000003 5 1 ∷ asks 0 0xC6000004 5 1 ∷ [])) 3 (unshared 0 5) 0
+    -- two that were unshared, of which this is the second
+    ∷ case (began ++ (Donate 0 8 6 ∷ asks 0 0xC6000003 5 2 ∷ asks 0 0xC6000004 5 2 ∷ [])) 8 (unshared 0 6) 0
     -- a shared granule can't be relinquished, a private one can
     ∷ case (began ++ (asks 0 0xC6000003 5 1 ∷ asks 0 0xC6000009 5 0 ∷ [])) 3 (shared 0 5) 1
     ∷ case (began ++ (asks 0 0xC6000009 5 0 ∷ [])) 3 relinquished 0
