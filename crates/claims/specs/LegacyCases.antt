@@ -232,6 +232,8 @@ legacyLeft =
     ∷ leaves (alone (withFlags true false false true zeroGuest)) (RegisterWrite 0 2 1 ∷ [])
     (alone (withFlags true false false true (withBitmaps 0 0 1 zeroGuest)))
     ∷ leaves (freshState 1 1) (Create true ∷ Run 0 ∷ Remove 0 ∷ []) (freshState 1 1)
+    -- a dead slot is free, whatever its lent record says
+    ∷ leaves (alone (withFlags false true true true zeroGuest)) (Create false ∷ []) (alone (newGuest false))
     ∷ leaves (freshState 9 8) (Create true ∷ Create false ∷ Donate 0 3 5 ∷ Donate 0 4 6 ∷ Donate 1 7 5 ∷ Donate 1 8 6 ∷ Run 0 ∷ Run 1 ∷ []) beside
     ∷ []
 
