@@ -9,7 +9,7 @@
  * docs/LINKING.md says how to link it and what is proved.
  *
  * Memory. The caller owns all of it and lends it for one call. The library keeps nothing between calls, allocates
- * nothing, and calls nothing but memcpy.
+ * nothing, and calls nothing.
  *
  *   records   CLUNDIP_ALL_RECORDS_WORDS words of 64 bits: eight records, slot 0 first, of CLUNDIP_RECORD_WORDS words
  *             each (CLUNDIP_RECORD_...)

@@ -1,6 +1,6 @@
 -- A range call, by its answer, tells of at most 64 single steps.
 use mathlib.Core.Path.{_≡_, refl, sym, ap, _∙_}
-use mathlib.Core.Bool.{Bool, true, false}
+use mathlib.Core.Bool.{true, false}
 use mathlib.Core.List.{List, [], _∷_, _++_}
 use mathlib.Core.Option.{Option, none, some}
 use Prim.Native.Nat.{ℕ, suc, _+_, _*_, _-_, _%_, _≤_, _^_, min}
@@ -17,14 +17,13 @@ use Rattle.words.proofs.Booleans.{and-true}
 use Rattle.words.proofs.GranuleLaws.{address-granule}
 use Rattle.tables.specs.Length.{lengthsHold}
 use Rattle.records.specs.Monitor.{guestOf, liveIn}
-use Rattle.answers.specs.Answer.{verdictWith, numbersOf}
+use Rattle.answers.specs.Answer.{numbersOf}
 use Rattle.commands.specs.State.{State, state, answered}
 use Rattle.commands.specs.Tests.{Tests, firstRefusal}
-use Rattle.commands.specs.Command.{Effect, unlessRefused, viewOf, effected}
+use Rattle.commands.specs.Command.{unlessRefused, viewOf, effected}
 use Rattle.records.specs.declared.monitor.Monitor.{Monitor}
 use Rattle.records.specs.declared.guest.Guest.{Guest}
 use Rattle.answers.specs.declared.answer.Answer.{Answer}
-use Rattle.answers.specs.declared.answer.Answer.the-variants.{BadLength, NoGuest, NeverRun}
 use Rattle.answers.specs.declared.answer.Numbers.{Numbers}
 use Rattle.granules.specs.Step.{Place, place, Refusal, isDamaged, notDone, tableStep}
 use Rattle.ranges.specs.Range.{rangeLimit}

@@ -1,21 +1,20 @@
 -- Document 02, Wish 1, of a guest that knows no ranges: "share and unshare want R2 zero, do one granule and return R1 = 0; 0xC6000007 is that
 -- document's MMIO guard, with R2 and R3 zero, −3 on error and no enrolment." Such a call is one single step, made from these rules.
 use mathlib.Core.Path.{_≡_}
-use mathlib.Core.Bool.{Bool, true, false, cond, _&&_}
+use mathlib.Core.Bool.{true, false, cond, _&&_}
 use mathlib.Core.List.{[], _∷_, _++_}
 use Prim.Native.Nat.{ℕ, _+_, _-_, _^_}
 use lib.Dec.{eqb, ltb}
 use lib.ListN.{length}
 use Rattle.runs.specs.Run.{Step, took, refuses, gated}
 use Rattle.words.specs.Granule.{granuleSize, granuleOf, isBase}
-use Rattle.tables.specs.Length.{widthOf, lengthsHold}
+use Rattle.tables.specs.Length.{widthOf}
 use Rattle.pairs.specs.Pair.{pairAt}
-use Rattle.records.specs.Monitor.{guestOf}
 use Rattle.answers.specs.Answer.{numbersOf, verdictWith}
 use Rattle.commands.specs.State.{State, Answered}
 use Rattle.commands.specs.Tests.{Tests, firstRefusal}
 use Rattle.answers.specs.declared.answer.Numbers.{Numbers}
-use Rattle.claims.specs.SingleSteps.{RangeCall, share, unshare, rangeGuardMap, granuleTests, changedAt, At, at}
+use Rattle.claims.specs.SingleSteps.{RangeCall, share, unshare, rangeGuardMap, verdictTests, granuleTests, changedAt, At, at}
 use Rattle.claims.specs.Pieces.{isRangeRefusal, differing}
 
 -- share, unshare and the MMIO guard
@@ -42,12 +41,7 @@ legacyError = verdictWith 10 (2 ^ 64 - 3)
 -- verdicts 1 to 3, then the base with R2 and R3 zero
 abbrev pub legacyCallTests : ℕ → ℕ → ℕ → ℕ → State → Tests Numbers
 legacyCallTests v r2 r3 b s =
-    let guest = guestOf (s .monitor) v in
-    (lengthsHold (length (s .frames)) (length (s .map)), verdictWith 1 0)
-    ∷ (ltb v 8 && guest .live, verdictWith 2 0)
-    ∷ (guest .run, verdictWith 3 0)
-    ∷ (isBase b && (eqb r2 0 && eqb r3 0), legacyError)
-    ∷ []
+    verdictTests v s ++ ((isBase b && (eqb r2 0 && eqb r3 0), legacyError) ∷ [])
 
 -- then those of the granule
 abbrev pub legacyTests : LegacyCall → ℕ → ℕ → ℕ → ℕ → State → Tests Numbers

@@ -22,7 +22,7 @@ use Rattle.claims.specs.SingleSteps.{At, at}
 use Rattle.claims.specs.Pieces.{liveLegacy}
 use Rattle.claims.specs.LegacyCalls.{LegacyCall, legacyShare, legacyUnshare, legacyGuardMap, legacyNumber, legacyStep, readOne}
 use Rattle.claims.specs.HostCases.{sound, damaged, noFrames}
-use Rattle.claims.specs.GuestCases.{guestFrames, guestRow, mapWith, callerOf, stateOf, asks, each, unsupported, otherNumbers, uidAnswer, featuresAnswer, isDamage, aborts, exits, resumes, excepts, leftOf}
+use Rattle.claims.specs.GuestCases.{guestFrames, mapWith, callerOf, stateOf, asks, each, unsupported, otherNumbers, uidAnswer, featuresAnswer, isDamage, aborts, exits, resumes, excepts, leftOf}
 
 -- slot 3 is legacy: enrolled, as its creation leaves it; and in a lent record that is not
 abbrev pub legacy : State
@@ -252,7 +252,7 @@ abbrev stepCase : LegacyCall → State → ℕ → ℕ → ℕ → ℕ → Step 
 stepCase c s v b r2 r3 o =
     record {
       found = (legacyStep c v r2 r3 (at b s), readOne b (hypercallOf v (registers (legacyNumber c) b r2 r3) s));
-      expected = (o, o)
+      expected = (o, o);
     }
 
 -- refused with −3 by slot 3, each at these bases with R2 and R3 zero

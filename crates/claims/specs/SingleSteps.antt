@@ -69,15 +69,18 @@ kindRight rangeGuardMap granule-state.Guarded = false
 kindRight rangeGuardUnmap granule-state.Guarded = true
 
 -- the tests of one step at the address b, "in this order": first "verdicts 1 to 3; registers ..; enrolment"
-abbrev pub callTests : RangeCall → ℕ → ℕ → ℕ → State → Tests Numbers
-callTests c v r3 b s =
+abbrev pub verdictTests : ℕ → State → Tests Numbers
+verdictTests v s =
     let guest = guestOf (s .monitor) v in
     (lengthsHold (length (s .frames)) (length (s .map)), verdictWith 1 0)
     ∷ (ltb v 8 && guest .live, verdictWith 2 0)
     ∷ (guest .run, verdictWith 3 0)
-    ∷ (registersRight c b r3, errorOf c)
-    ∷ (enrolmentRight c guest, errorOf c)
     ∷ []
+
+abbrev pub callTests : RangeCall → ℕ → ℕ → ℕ → State → Tests Numbers
+callTests c v r3 b s =
+    let guest = guestOf (s .monitor) v in
+    verdictTests v s ++ ((registersRight c b r3, errorOf c) ∷ (enrolmentRight c guest, errorOf c) ∷ [])
 
 -- then "the granule below W; verdict 6 for this granule with its frame; the kind that the call needs", of a granule in the state k; n is the
 -- answer "where no other is named"

@@ -7,14 +7,14 @@ ghost use Rattle.embed.specs.Lent.{lent, lentAfter};
 use host_donation::decide_donate;
 use host_frames::decide_access;
 use host_frames::decide_cleared;
-use record_words::RECORD_WORDS;
+use record_words::ALL_RECORDS_WORDS;
 use record_words::guest_in;
 use record_words::put_answer;
 
 // A frame of the host is given to a granule of the guest in a slot.
 #[no_mangle]
 pub extern "C" fn clundip_donate_abi2(
-    records: &[u64; RECORD_WORDS],
+    records: &[u64; ALL_RECORDS_WORDS],
     frames: &mut [u32],
     map: &mut [u32],
     slot: u64,

@@ -6,7 +6,7 @@ ghost use Rattle.embed.specs.Lent.{lent, lentAfter};
 use functions::Registers;
 use guest_aborts::decide_abort;
 use guest_hypercalls::decide_hypercall;
-use record_words::RECORD_WORDS;
+use record_words::ALL_RECORDS_WORDS;
 use record_words::guest_in;
 use record_words::put_answer;
 use record_words::put_change;
@@ -14,7 +14,7 @@ use record_words::put_change;
 // A hypercall of the guest in a slot, with R0 to R3.
 #[no_mangle]
 pub extern "C" fn clundip_hypercall_abi2(
-    records: &mut [u64; RECORD_WORDS],
+    records: &mut [u64; ALL_RECORDS_WORDS],
     frames: &mut [u32],
     map: &mut [u32],
     slot: u64,
@@ -41,7 +41,7 @@ pub extern "C" fn clundip_hypercall_abi2(
 // An access of the guest in a slot that found no page.
 #[no_mangle]
 pub extern "C" fn clundip_abort_abi2(
-    records: &[u64; RECORD_WORDS],
+    records: &[u64; ALL_RECORDS_WORDS],
     frames: &[u32],
     map: &[u32],
     slot: u64,

@@ -5,7 +5,7 @@ ghost use Rattle.host_registers.specs.Registers.{registerReadOf, registerWriteO
 ghost use Rattle.embed.specs.Lent.{lent, lentAfter};
 use host_registers::decide_register_read;
 use host_registers::decide_register_write;
-use record_words::RECORD_WORDS;
+use record_words::ALL_RECORDS_WORDS;
 use record_words::guest_in;
 use record_words::put_answer;
 use record_words::put_change;
@@ -13,7 +13,7 @@ use record_words::put_change;
 // The host reads a firmware register of the guest in a slot.
 #[no_mangle]
 pub extern "C" fn clundip_register_read_abi2(
-    records: &[u64; RECORD_WORDS],
+    records: &[u64; ALL_RECORDS_WORDS],
     slot: u64,
     register: u64,
     answer: &mut [u64; 5],
@@ -28,7 +28,7 @@ pub extern "C" fn clundip_register_read_abi2(
 // The host writes a firmware register of the guest in a slot.
 #[no_mangle]
 pub extern "C" fn clundip_register_write_abi2(
-    records: &mut [u64; RECORD_WORDS],
+    records: &mut [u64; ALL_RECORDS_WORDS],
     slot: u64,
     register: u64,
     value: u64,

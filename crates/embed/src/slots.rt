@@ -12,7 +12,7 @@ use host_guests::decide_run;
 use host_guests::decide_show;
 use host_guests::show_row;
 use host_removal::decide_remove;
-use record_words::RECORD_WORDS;
+use record_words::ALL_RECORDS_WORDS;
 use record_words::guest_in;
 use record_words::monitor_in;
 use record_words::put_answer;
@@ -22,7 +22,7 @@ use tables::row_bounds;
 // A guest with ranges is created in the lowest slot that is not live.
 #[no_mangle]
 pub extern "C" fn clundip_create_abi2(
-    records: &mut [u64; RECORD_WORDS],
+    records: &mut [u64; ALL_RECORDS_WORDS],
     frames: &[u32],
     map: &[u32],
     answer: &mut [u64; 5],
@@ -36,7 +36,7 @@ pub extern "C" fn clundip_create_abi2(
 // The same for a guest that knows no ranges.
 #[no_mangle]
 pub extern "C" fn clundip_create_legacy_abi2(
-    records: &mut [u64; RECORD_WORDS],
+    records: &mut [u64; ALL_RECORDS_WORDS],
     frames: &[u32],
     map: &[u32],
     answer: &mut [u64; 5],
@@ -50,7 +50,7 @@ pub extern "C" fn clundip_create_legacy_abi2(
 // The guest in a slot is run.
 #[no_mangle]
 pub extern "C" fn clundip_run_abi2(
-    records: &mut [u64; RECORD_WORDS],
+    records: &mut [u64; ALL_RECORDS_WORDS],
     slot: u64,
     answer: &mut [u64; 5],
 )
@@ -66,7 +66,7 @@ pub extern "C" fn clundip_run_abi2(
 // The guest in a slot is removed.
 #[no_mangle]
 pub extern "C" fn clundip_remove_abi2(
-    records: &mut [u64; RECORD_WORDS],
+    records: &mut [u64; ALL_RECORDS_WORDS],
     frames: &mut [u32],
     map: &mut [u32],
     slot: u64,
@@ -84,7 +84,7 @@ pub extern "C" fn clundip_remove_abi2(
 // The row of the guest in a slot: where it begins in the map table, and how many words it has.
 #[no_mangle]
 pub extern "C" fn clundip_show_abi2(
-    records: &[u64; RECORD_WORDS],
+    records: &[u64; ALL_RECORDS_WORDS],
     map: &[u32],
     slot: u64,
     part: &mut [u64; 2],
@@ -106,7 +106,7 @@ pub extern "C" fn clundip_show_abi2(
 
 // A guest of either kind is created.
 fn create_kind(
-    records: &mut [u64; RECORD_WORDS],
+    records: &mut [u64; ALL_RECORDS_WORDS],
     frames: &[u32],
     map: &[u32],
     legacy: bool,

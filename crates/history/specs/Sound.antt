@@ -15,7 +15,7 @@ use Rattle.records.specs.Change.{withBitmap}
 use Rattle.host_registers.specs.Registers.{withinLimit}
 use Rattle.records.specs.declared.change.FirmwareRegister.the-variants.{VendorHyp}
 
--- a live guest's record as create sets it, but for two flags and VENDOR_HYP
+-- a live guest's record as create sets it, but for its kind, two flags and VENDOR_HYP
 abbrev pub guestAs : Bool → Bool → Bool → ℕ → Guest
 guestAs legacy run enrolled x = withFlags true legacy run enrolled (withBitmap VendorHyp x (newGuest legacy))
 

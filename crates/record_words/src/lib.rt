@@ -4,7 +4,7 @@ mod replies;
 mod slots;
 
 pub use replies::put_answer;
-pub use slots::RECORD_WORDS;
+pub use slots::ALL_RECORDS_WORDS;
 pub use slots::guest_in;
 pub use slots::monitor_in;
 pub use slots::put_change;

@@ -11,10 +11,10 @@ use records::Guest;
 use records::Monitor;
 
 // The words of the records of all slots.
-pub const RECORD_WORDS: usize = 8 * GUEST_WORDS;
+pub const ALL_RECORDS_WORDS: usize = 8 * GUEST_WORDS;
 
 // The record of a slot, of any words. A slot above 7 has that of no guest.
-pub fn guest_in(words: &[u64; RECORD_WORDS], slot: u64) -> Guest
+pub fn guest_in(words: &[u64; ALL_RECORDS_WORDS], slot: u64) -> Guest
     ensures { λ r. ⌜ r ≡ guestOf (monitorIn (now (words .entry))) slot ⌝ }
 {
     if slot < 8 {
@@ -29,7 +29,7 @@ pub fn guest_in(words: &[u64; RECORD_WORDS], slot: u64) -> Guest
 }
 
 // The records of all slots, of any words.
-pub fn monitor_in(words: &[u64; RECORD_WORDS]) -> Monitor
+pub fn monitor_in(words: &[u64; ALL_RECORDS_WORDS]) -> Monitor
     ensures { λ r. ⌜ r ≡ monitorIn (now (words .entry)) ⌝ }
 {
     Monitor {
@@ -47,7 +47,7 @@ pub fn monitor_in(words: &[u64; RECORD_WORDS]) -> Monitor
 }
 
 // Makes a change of the record of a slot. Where that stays as it is, and for a slot above 7, no word changes.
-pub fn put_change(words: &mut [u64; RECORD_WORDS], slot: u64, change: Change)
+pub fn put_change(words: &mut [u64; ALL_RECORDS_WORDS], slot: u64, change: Change)
     ensures { λ _. ⌜ now (words .exit) ≡ wordsAfter (now (words .entry)) (withChange (monitorIn (now (words .entry))) slot change) ⌝ }
 {
     if change.alters() {
