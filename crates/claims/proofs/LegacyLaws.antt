@@ -12,7 +12,7 @@ use Rattle.runs.specs.Run.{Step, took, refuses, complete, refused, outOfFuel, E
 use Rattle.runs.specs.Made.{Every}
 use Rattle.runs.proofs.Alike.{mapStep}
 use Rattle.words.specs.Granule.{granuleSize, granuleOf, isBase, addressOf}
-use Rattle.words.proofs.Booleans.{both-true}
+use Rattle.words.proofs.Booleans.{both-true, never}
 use Rattle.words.proofs.GranuleLaws.{address-granule}
 use Rattle.tables.specs.Length.{widthOf, lengthsHold}
 use Rattle.pairs.specs.Pair.{pairAt}
@@ -95,6 +95,15 @@ module _ (c : LegacyCall) (v b : ℕ) (m : Monitor) (map frames : List ℕ) (g :
       ap (λ (a : ℕ). took (at a (state frames′ map′ m))) there
   step-read (refuses isDamaged) e = refl
   step-read (refuses notDone) e = refl
+
+-- a step that is done tells 0 alone, and one that is not is refused
+done-told : (v : ℕ) (s : State) (p : Place) (o : Step Place Refusal)
+    → let a = numbersOf (effected v s (finished InvalidParameter false (onward (λ t. ended 0 t complete) p o)) .answer) in
+    isRangeRefusal a ≡ false → a ≡ verdictWith 10 0
+unfolding numbersOf
+done-told v s p (took (place map frames g)) h = refl
+done-told v s p (refuses isDamaged) h = never (sym h)
+done-told v s p (refuses notDone) h = never (sym h)
 
 -- a range that tells nothing tells R1 = 0
 none-told : (v : ℕ) (s : State) (e : End Place Refusal) → numbersOf (effected v s (finished InvalidParameter false e) .answer) .v1 ≡ 0
@@ -190,13 +199,25 @@ module _ (c : LegacyCall) (r0 : ℕ) (number : r0 % 2 ^ 32 ≡ legacyNumber c) (
       let a = numbersOf (r .answer) in
       record {
         step = is-step;
-        done = λ h. done-one (isRangeRefusal a) a (r .left) h one-step;
+        done = λ h. (
+          done-one (isRangeRefusal a) a (r .left) h one-step,
+          all-told (firstRefusal tests) refl (reads (λ r. numbersOf (r .answer)) (λ n. n) refl refl refl refl) h,
+        );
         none = λ h.
             step-kept (Hypercall v (registers r0 b r2 r3)) s
             (refused-by (λ n. isRefusal n ≡ true) refl refl refl refl refl (isRangeRefusal a) a (r .left) h is-step);
         told = reads (λ r. numbersOf (r .answer) .v1) (λ n. n .v1) refl refl refl refl ∙ on (firstRefusal tests) refl;
       }
     where
+      here : Place
+      here = place (s .map) (s .frames) (granuleOf b)
+
+      all-told : (q : Option Numbers) → firstRefusal tests ≡ q → {a : Numbers} → a ≡ unless q (λ n. n) (numbersOf (effected v s effect .answer))
+          → isRangeRefusal a ≡ false → a ≡ verdictWith 10 0
+      all-told (some n) e is h = never (sym h ∙ ap isRangeRefusal is ∙ refusal-is (λ n. isRangeRefusal n ≡ true) tests (refl, (refl, (refl, (refl, tt)))) n e)
+      all-told none e is h =
+          is ∙ done-told v s here (tableStep (operationOf (sameChange c)) v here) (ap isRangeRefusal (sym is) ∙ h)
+
       on : (q : Option Numbers) → firstRefusal tests ≡ q → unless q (λ n. n .v1) (numbersOf (effected v s effect .answer) .v1) ≡ 0
       on (some n) e = refusal-is (λ n. n .v1 ≡ 0) tests (refl, (refl, (refl, (refl, tt)))) n e
       on none e = none-told v s (onward (λ t. ended 0 t complete) (place (s .map) (s .frames) (granuleOf b)) (tableStep (operationOf (sameChange c)) v (place (s .map) (s .frames) (granuleOf b))))

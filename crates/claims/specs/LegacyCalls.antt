@@ -57,9 +57,10 @@ legacyStep c v r2 r3 (at b s) = gated (firstRefusal (legacyTests c v r2 r3 b s))
 abbrev pub readOne : ℕ → Answered → Step At Numbers
 readOne b r = cond (isRangeRefusal (numbersOf (r .answer))) (refuses (numbersOf (r .answer))) (took (at (b + granuleSize) (r .left)))
 
--- A call found s. It is the one step; with R0 = 0 it changed one map word, with any other answer nothing; and it tells R1 = 0.
+-- A call found s. It is the one step; with R0 = 0 it changed one map word and tells nothing else, with any other answer it changed nothing; and
+-- it tells R1 = 0.
 pub record OneGranule (c : LegacyCall) (v b r2 r3 : ℕ) (s : State) (r : Answered) : Type 0 where
   pub step : readOne b r ≡ legacyStep c v r2 r3 (at b s)
-  pub done : isRangeRefusal (numbersOf (r .answer)) ≡ false → differing (s .map) (r .left .map) ≡ 1
+  pub done : isRangeRefusal (numbersOf (r .answer)) ≡ false → (differing (s .map) (r .left .map) ≡ 1) × (numbersOf (r .answer) ≡ verdictWith 10 0)
   pub none : isRangeRefusal (numbersOf (r .answer)) ≡ true → r .left ≡ s
   pub told : numbersOf (r .answer) .v1 ≡ 0
