@@ -3,6 +3,8 @@
 // It keeps nothing between calls.
 // The suffix of each export is the layout's version, CLUNDIP_ABI in include/clundip.h. It is raised with every change of a layout, so that a
 // program compiled for another layout does not link.
+#![tactic(auto)]
+
 mod frames;
 mod hypercalls;
 mod registers;

@@ -1,5 +1,7 @@
 // The guest records as words that a caller lends, and an answer as five.
 // It rests on records, answers and commands. It makes no call and knows no table.
+#![tactic(auto)]
+
 mod replies;
 mod slots;
 

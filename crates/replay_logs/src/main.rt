@@ -2,6 +2,8 @@
 // output. They are document 01's example, one of a legacy guest beside one with ranges, one for each sort of bad record, no input, and one of
 // 5,047 records, which is longer than a piece. It rests on replay_stream, and on os, io and libc for its arguments and files. It decides
 // nothing.
+#![tactic(auto)]
+
 use libc::STDOUT_FILENO;
 
 fn replay_file(number: usize) {

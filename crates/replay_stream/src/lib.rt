@@ -1,6 +1,8 @@
 // A replay from one file descriptor to another, for programs.
 // It rests on trace and trace_lines for everything that is decided, and on io and libc for reading and writing, of which no contract can
 // speak. It only reads, calls and writes, and holds one piece of the log at a time.
+#![tactic(auto)]
+
 mod descriptors;
 
 use descriptors::{Piece, read_behind, say, write_out};

@@ -1,5 +1,7 @@
 // The two tables' lengths, and where a slot's row stands in the map table.
 // It rests on no other crate's code. It looks at no word.
+#![tactic(auto)]
+
 mod lengths;
 mod rows;
 

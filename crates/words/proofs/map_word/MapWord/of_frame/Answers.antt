@@ -1,0 +1,8 @@
+-- The kind above the frame is a sum.
+use native.Mathlib.Omega.{arith}
+use Rattle.words.proofs.MapWordLaws.{frame_bits_lem, kind_few}
+use borrow.Author.Rules.{rules}
+use Rattle.words.proofs.map_word.MapWord.of_frame.Goals as goal
+
+pub returns : goal.returns
+returns c = frame_bits_lem c.args.shared c.args.frame (omega arith)
