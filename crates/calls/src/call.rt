@@ -1,6 +1,6 @@
 ghost use Rattle.std.specs.Prelude.{◌≡◌};
 ghost use Rattle.commands.specs.State.{state, answered};
-ghost use Rattle.commands.specs.Command.{view, slot_number, result, result_of};
+ghost use Rattle.commands.specs.Command.{view, slot_number, result_with, result_of};
 ghost use Rattle.calls.specs.Step.{command_of, step};
 
 use commands::{Decision, Reply};
@@ -62,7 +62,7 @@ pub enum Call {
 impl Call {
     // The slot whose record the call looks at and may change. That of create is the lowest that is not live. A call about a frame has none: 8.
     pub fn slot(self, monitor: Monitor) -> u64
-        ensures* { λ r. ⌜ r ≡ slot_number (command_of self).slot monitor ⌝ }
+        ensures { result ≡ slot_number (command_of self).slot monitor }
     {
         match self {
             Call::Create { legacy: _ } => monitor.free_slot(),
@@ -89,8 +89,8 @@ impl Call {
 
     // What the call decides for its slot and the record there, any record where the slot is above 7. The tables it changes.
     pub fn decide(self, at: u64, guest: Guest, frames: &mut [u32], map: &mut [u32]) -> Decision
-        ensures* { λ r. ⌜ result frames.new map.new r
-            ≡ result_of (command_of self) (view frames.old map.old at guest) ⌝ }
+        ensures { result_with frames.new map.new result
+            ≡ result_of (command_of self) (view frames.old map.old at guest) }
     {
         match self {
             Call::Create { legacy } => decide_create(frames, map, at, legacy),
@@ -119,8 +119,8 @@ impl Call {
 
     // The call made on these records and tables. It answers for any call, records and tables. Of show it is the verdict.
     pub fn perform(self, monitor: Monitor, frames: &mut [u32], map: &mut [u32]) -> Reply
-        ensures* { λ r. ⌜ answered (state frames.new map.new r.monitor) r.answer
-            ≡ step self (state frames.old map.old monitor) ⌝ }
+        ensures { answered (state frames.new map.new result.monitor) result.answer
+            ≡ step self (state frames.old map.old monitor) }
     {
         let slot = self.slot(monitor);
         let decision = self.decide(slot, monitor.guest(slot), frames, map);

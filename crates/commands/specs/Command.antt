@@ -117,13 +117,13 @@ pub record Result : Type 0 where
   pub map : List ℕ
   pub decision : Decision
 
-abbrev pub result : List ℕ → List ℕ → Decision → Result
-result f m d = record { frames = f; map = m; decision = d }
+abbrev pub result_with : List ℕ → List ℕ → Decision → Result
+result_with f m d = record { frames = f; map = m; decision = d }
 
 abbrev pub result_by : View → Effect → Result
-result_by x (answer_only a) = result x.frames x.map (decision Kept a)
-result_by x (change_record d y) = result x.frames x.map (decision d (success_answer y))
-result_by x (write_tables f m d y) = result f m (decision d (success_answer y))
+result_by x (answer_only a) = result_with x.frames x.map (decision Kept a)
+result_by x (change_record d y) = result_with x.frames x.map (decision d (success_answer y))
+result_by x (write_tables f m d y) = result_with f m (decision d (success_answer y))
 
 abbrev pub result_of : Command → View → Result
 result_of k x = result_by x (unless_refused (first_refusal (tests_of k x)) (effect_of k x))

@@ -10,7 +10,7 @@ use Rattle.records.specs.declared.guest.Guest.{Guest}
 use Rattle.records.specs.declared.change.Change.{Change}
 use Rattle.records.specs.declared.change.Change.TheVariants.{Kept}
 use Rattle.commands.specs.State.{State, state, Answered}
-use Rattle.commands.specs.Command.{View, view, slot_number, Effect, answer_only, change_record, write_tables, Command, effect_of, Result, result, result_by, result_of, performed}
+use Rattle.commands.specs.Command.{View, view, slot_number, Effect, answer_only, change_record, write_tables, Command, effect_of, Result, result_with, result_by, result_of, performed}
 use Rattle.commands.specs.declared.decision.Decision.{Decision}
 use Rattle.commands.proofs.CommandLaws.{command_either, applying}
 use Rattle.record_words.specs.Words.{monitor_in, words_after, answer_words}
@@ -39,10 +39,10 @@ lent_done call w f m z e = rw e
 
 -- any call, decided on the record of its slot
 module _ (k : Command) (w f m : List ℕ) (v : ℕ) (n : v ≡ slot_number k.slot (monitor_in w)) (g : Guest) (e : g ≡ guest_of (monitor_in w) v)
-    (f' m' : List ℕ) (d : Decision) (h : result f' m' d ≡ result_of k (view f m v g)) (a' : List ℕ) (told : a' ≡ answer_words (numbers_of d.answer))
+    (f' m' : List ℕ) (d : Decision) (h : result_with f' m' d ≡ result_of k (view f m v g)) (a' : List ℕ) (told : a' ≡ answer_words (numbers_of d.answer))
   where
     pub lent_put : (w' : List ℕ) → w' ≡ words_after w (with_change (monitor_in w) v d.change) → lent w' f' m' a' ≡ lent_after (performed k) w f m
-    lent_put w' put = rw (put, told) (lent_done (performed k) w f m _ (applying k (state f m (monitor_in w)) v g (result f' m' d) n e h))
+    lent_put w' put = rw (put, told) (lent_done (performed k) w f m _ (applying k (state f m (monitor_in w)) v g (result_with f' m' d) n e h))
 
     -- a change that alters no record leaves every word
     pub lent_unaltered : alters d.change ≡ false → lent w f' m' a' ≡ lent_after (performed k) w f m

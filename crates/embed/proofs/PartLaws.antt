@@ -14,7 +14,7 @@ use Rattle.tables.specs.declared.rows.RowBounds.{RowBounds}
 use Rattle.records.specs.Monitor.{guest_of}
 use Rattle.commands.specs.Tests.{first_refusal}
 use Rattle.commands.specs.State.{Answered, state}
-use Rattle.commands.specs.Command.{view, tests_of, result, result_of}
+use Rattle.commands.specs.Command.{view, tests_of, result_with, result_of}
 use Rattle.commands.specs.declared.decision.Decision.{Decision}
 use Rattle.commands.proofs.CommandLaws.{applying}
 use Rattle.records.specs.declared.guest.Guest.{Guest}
@@ -26,8 +26,8 @@ use Rattle.embed.specs.Lent.{part_words}
 
 -- show, by the record g of slot v
 module _ (v : ℕ) (r : Monitor) (m : List ℕ) (g : Guest) (e : g ≡ guest_of r v) where
-  pub show_told : (d : Decision) → result [] m d ≡ result_of (show_command v) (view [] m v g) → d.answer ≡ (show_of v r m).answer
-  show_told d h = ap (λ (a : Answered). a.answer) (applying (show_command v) (state [] m r) v g (result [] m d) refl e h ∙ show_performed v (state [] m r))
+  pub show_told : (d : Decision) → result_with [] m d ≡ result_of (show_command v) (view [] m v g) → d.answer ≡ (show_of v r m).answer
+  show_told d h = ap (λ (a : Answered). a.answer) (applying (show_command v) (state [] m r) v g (result_with [] m d) refl e h ∙ show_performed v (state [] m r))
 
   module _ (row : List ℕ) (s : row ≡ (shown_by v g m).part) where
     handed : row ≡ (show_of v r m).part

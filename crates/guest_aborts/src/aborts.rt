@@ -1,6 +1,6 @@
 ghost use Rattle.std.specs.Prelude.{◌≡◌, ◌<◌};
 ghost use Rattle.commands.specs.State.{state, answered};
-ghost use Rattle.commands.specs.Command.{view, result, result_of};
+ghost use Rattle.commands.specs.Command.{view, result_with, result_of};
 ghost use Rattle.guest_aborts.specs.Calls.{unbacked, guest_access_of, abort_command, abort_of};
 
 use answers::Answer;
@@ -13,8 +13,8 @@ use words::Granule;
 
 // An access of the guest in a slot that found no page, at any address. It answers for any tables, slot number and records.
 pub fn abort(monitor: Monitor, frames: &[u32], map: &[u32], slot: u64, ipa: u64) -> Reply
-    ensures* { λ r. ⌜ answered (state frames.now map.now r.monitor) r.answer
-        ≡ abort_of slot ipa (state frames.now map.now monitor) ⌝ }
+    ensures { answered (state frames.now map.now result.monitor) result.answer
+        ≡ abort_of slot ipa (state frames.now map.now monitor) }
 {
     let guest = monitor.guest(slot);
     decide_abort(guest, frames, map, slot, ipa).reply(monitor, slot)
@@ -22,8 +22,8 @@ pub fn abort(monitor: Monitor, frames: &[u32], map: &[u32], slot: u64, ipa: u64)
 
 // What an abort decides by the record of its slot, any record where the slot is above 7.
 pub fn decide_abort(guest: Guest, frames: &[u32], map: &[u32], slot: u64, ipa: u64) -> Decision
-    ensures* { λ r. ⌜ result frames.now map.now r
-        ≡ result_of (abort_command slot ipa) (view frames.now map.now slot guest) ⌝ }
+    ensures { result_with frames.now map.now result
+        ≡ result_of (abort_command slot ipa) (view frames.now map.now slot guest) }
 {
     match caller_admission(frames, map, slot, guest) {
         Admission::Refused(answer) => Decision::keep(answer),
@@ -34,7 +34,7 @@ pub fn decide_abort(guest: Guest, frames: &[u32], map: &[u32], slot: u64, ipa: u
 // What an access of a live guest at this address comes to.
 fn guest_access(frames: &[u32], map: &[u32], slot: u64, ipa: u64, guest: Guest) -> Answer
     requires { slot < 8 }
-    ensures* { λ r. ⌜ r ≡ guest_access_of frames.now map.now slot ipa guest ⌝ }
+    ensures { result ≡ guest_access_of frames.now map.now slot ipa guest }
 {
     let words = row(map, slot);
     let granule = Granule::holding(ipa);
@@ -55,7 +55,7 @@ fn guest_access(frames: &[u32], map: &[u32], slot: u64, ipa: u64, guest: Guest) 
 
 // An access where nothing backs the address.
 fn access_unbacked(ipa: u64, guest: Guest) -> Answer
-    ensures* { λ r. ⌜ r ≡ unbacked ipa guest ⌝ }
+    ensures { result ≡ unbacked ipa guest }
 {
     if guest.enrolled {
         Answer::Exception

@@ -9,7 +9,7 @@ use Rattle.runs.specs.Run.{Stop, ended, run}
 use Rattle.runs.proofs.Runs.{StandsAt, run_none}
 use Rattle.answers.specs.Answer.{returned}
 use Rattle.commands.specs.Tests.{Tests, first_refusal, refusal_by}
-use Rattle.commands.specs.Command.{View, tests_of, decision, Result, result, result_by, result_of}
+use Rattle.commands.specs.Command.{View, tests_of, decision, Result, result_with, result_by, result_of}
 use Rattle.answers.specs.declared.answer.Answer.{Answer}
 use Rattle.records.specs.declared.change.Change.TheVariants.{Kept}
 use Rattle.commands.specs.declared.admission.Admission.{Admission}
@@ -33,7 +33,7 @@ module _ (v : ℕ) (r : Registers) (x : View) (q : Admission) (t : refusal_by q 
   abbrev row : CallRow
   row = row_for r x.guest
 
-  pub call_refused : (a : Answer) → q ≡ admission.Refused a → result x.frames x.map (decision Kept a) ≡ result_of (hypercall_command v r) x
+  pub call_refused : (a : Answer) → q ≡ admission.Refused a → result_with x.frames x.map (decision Kept a) ≡ result_of (hypercall_command v r) x
   call_refused a p =
       refused_result (hypercall_command v r) x q (ap refusal_by p ∙ sym (first_refuse caller (row_tests row r x.guest) a (sym t ∙ ap refusal_by p))) a p
 
@@ -42,7 +42,7 @@ module _ (v : ℕ) (r : Registers) (x : View) (q : Admission) (t : refusal_by q 
     all_tested : refusal_by y ≡ first_refusal (tests_of (hypercall_command v r) x)
     all_tested = u ∙ rw ew (sym (first_pass caller (row_tests row r x.guest) (sym t ∙ ap refusal_by p)))
 
-    pub row_refused : (a : Answer) → y ≡ admission.Refused a → result x.frames x.map (decision Kept a) ≡ result_of (hypercall_command v r) x
+    pub row_refused : (a : Answer) → y ≡ admission.Refused a → result_with x.frames x.map (decision Kept a) ≡ result_of (hypercall_command v r) x
     row_refused a e = refused_result (hypercall_command v r) x y all_tested a e
 
     pub row_passed : y ≡ admission.Passed → (o : Result) → o ≡ result_by x (act_of r w.error w.action x) → o ≡ result_of (hypercall_command v r) x
@@ -56,7 +56,7 @@ some_done e t (suc k) r h = refl
 -- a range that ended so, and one that did nothing found these tables
 ended_result : (x : View) (g : ℕ) (e : Error) (t : Bool) (k : ℕ) (map frames : List ℕ) (h : ℕ) (r : Stop Refusal)
     → StandsAt (place x.map x.frames g) (ended k (place map frames h) r)
-    → result frames map (decision Kept (done_answer e t k r)) ≡ result_by x (finished e t (ended k (place map frames h) r))
+    → result_with frames map (decision Kept (done_answer e t k r)) ≡ result_by x (finished e t (ended k (place map frames h) r))
 ended_result x g e t zero map frames h r at =
     let m : map ≡ x.map = cc in
     let f : frames ≡ x.frames = cc in
@@ -65,7 +65,7 @@ ended_result x g e t (suc k) map frames h r at = refl
 
 pub range_result : (o : Operation) (v n b : ℕ) (x : View) (e : Error) (t : Bool) (k : ℕ) (map frames : List ℕ) (h : ℕ) (r : Stop Refusal)
     → run (table_step o v) n (place x.map x.frames (granule_of b)) ≡ ended k (place map frames h) r
-    → result frames map (decision Kept (done_answer e t k r)) ≡ result_by x (finished e t (run (table_step o v) n (place x.map x.frames (granule_of b))))
+    → result_with frames map (decision Kept (done_answer e t k r)) ≡ result_by x (finished e t (run (table_step o v) n (place x.map x.frames (granule_of b))))
 range_result o v n b x e t k map frames h r is =
     let start = place x.map x.frames (granule_of b) in
     rw is (ended_result x (granule_of b) e t k map frames h r (rw is at (run_none (table_step o v) n start)))

@@ -1,6 +1,6 @@
 ghost use Rattle.std.specs.Prelude.{◌≡◌, ◌<◌};
 ghost use Rattle.commands.specs.State.{state, answered};
-ghost use Rattle.commands.specs.Command.{view, result, result_by, result_of};
+ghost use Rattle.commands.specs.Command.{view, result_with, result_by, result_of};
 ghost use Rattle.records.specs.declared.guest.Guest.{Guest};
 ghost use Rattle.guest_hypercalls.specs.Calls.{act_of, hypercall_command, hypercall_of};
 
@@ -21,8 +21,8 @@ pub fn hypercall(
     slot: u64,
     registers: Registers,
 ) -> Reply
-    ensures* { λ r. ⌜ answered (state frames.new map.new r.monitor) r.answer
-        ≡ hypercall_of slot registers (state frames.old map.old monitor) ⌝ }
+    ensures { answered (state frames.new map.new result.monitor) result.answer
+        ≡ hypercall_of slot registers (state frames.old map.old monitor) }
 {
     let guest = monitor.guest(slot);
     let decision = decide_hypercall(guest, frames, map, slot, registers);
@@ -37,8 +37,8 @@ pub fn decide_hypercall(
     slot: u64,
     registers: Registers,
 ) -> Decision
-    ensures* { λ r. ⌜ result frames.new map.new r
-        ≡ result_of (hypercall_command slot registers) (view frames.old map.old slot guest) ⌝ }
+    ensures { result_with frames.new map.new result
+        ≡ result_of (hypercall_command slot registers) (view frames.old map.old slot guest) }
 {
     match caller_admission(frames, map, slot, guest) {
         Admission::Refused(answer) => Decision::keep(answer),
@@ -64,8 +64,8 @@ fn act(
     action: Action,
 ) -> Decision
     requires { slot < 8 }
-    ensures* { λ r. ⌜ ((guest : Guest) → result frames.new map.new r
-        ≡ result_by (view frames.old map.old slot guest) (act_of registers error action (view frames.old map.old slot guest))) ⌝ }
+    ensures { (guest : Guest) → result_with frames.new map.new result
+        ≡ result_by (view frames.old map.old slot guest) (act_of registers error action (view frames.old map.old slot guest)) }
 {
     match action {
         Action::Refuse => Decision::keep(error.answer()),

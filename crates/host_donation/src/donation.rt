@@ -1,7 +1,7 @@
 ghost use Rattle.std.specs.Prelude.{◌≡◌};
 ghost use Rattle.commands.specs.State.{state, answered};
 ghost use Rattle.commands.specs.Tests.{first_refusal, refusal_by};
-ghost use Rattle.commands.specs.Command.{view, tests_of, result, result_of};
+ghost use Rattle.commands.specs.Command.{view, tests_of, result_with, result_of};
 ghost use Rattle.host_donation.specs.Calls.{donate_command, donate_of};
 
 use answers::Answer;
@@ -20,8 +20,8 @@ pub fn donate(
     frame: u64,
     granule: u64,
 ) -> Reply
-    ensures* { λ r. ⌜ answered (state frames.new map.new r.monitor) r.answer
-        ≡ donate_of slot frame granule (state frames.old map.old monitor) ⌝ }
+    ensures { answered (state frames.new map.new result.monitor) result.answer
+        ≡ donate_of slot frame granule (state frames.old map.old monitor) }
 {
     let guest = monitor.guest(slot);
     let decision = decide_donate(guest, frames, map, slot, frame, granule);
@@ -37,8 +37,8 @@ pub fn decide_donate(
     frame: u64,
     granule: u64,
 ) -> Decision
-    ensures* { λ r. ⌜ result frames.new map.new r
-        ≡ result_of (donate_command slot frame granule) (view frames.old map.old slot guest) ⌝ }
+    ensures { result_with frames.new map.new result
+        ≡ result_of (donate_command slot frame granule) (view frames.old map.old slot guest) }
 {
     match donate_admission(frames, map, slot, frame, granule, guest) {
         Admission::Refused(answer) => Decision::keep(answer),
@@ -63,7 +63,7 @@ fn donate_admission(
     granule: u64,
     guest: Guest,
 ) -> Admission
-    ensures* { λ r. ⌜ refusal_by r ≡ first_refusal (tests_of (donate_command slot frame granule) (view frames.now map.now slot guest)) ⌝ }
+    ensures { refusal_by result ≡ first_refusal (tests_of (donate_command slot frame granule) (view frames.now map.now slot guest)) }
 {
     let here = pair_at(map, frames, slot, Granule(granule));
     let there = pair_of(map, frames, frame);

@@ -11,7 +11,7 @@ use Rattle.pairs.specs.Pair.{pair_of}
 use Rattle.pairs.specs.declared.pairs.FrameState.{FrameState}
 use Rattle.pairs.specs.declared.pairs.FrameState.TheVariants as frame-state
 use Rattle.commands.specs.Tests.{Tests, first_refusal, refusal_by}
-use Rattle.commands.specs.Command.{View, both_tables, answer_only, length_tests, tests_of, unless_refused, decision, Result, result, result_by, result_of}
+use Rattle.commands.specs.Command.{View, both_tables, answer_only, length_tests, tests_of, unless_refused, decision, Result, result_with, result_by, result_of}
 use Rattle.records.specs.declared.change.Change.TheVariants.{Kept}
 use Rattle.answers.specs.declared.answer.Answer.{Answer}
 use Rattle.answers.specs.declared.answer.Answer.TheVariants.{Done, Damaged, NotWaiting}
@@ -29,7 +29,7 @@ access_by (frame-state.Owned v false g) = Done 0
 access_by frame-state.Damaged = Damaged
 
 abbrev told : View → Answer → Result
-told s a = result s.frames s.map (decision Kept a)
+told s a = result_with s.frames s.map (decision Kept a)
 
 access_refuses : (s : View) (d : FrameState) → told s (access_by d) ≡ result_by s (unless_refused (first_refusal (access_looks d)) (answer_only (Done (open_to d))))
 access_refuses s frame-state.Host = refl
@@ -41,7 +41,7 @@ access_refuses s frame-state.Damaged = refl
 -- what cleared comes to where the numbers are in range
 abbrev pub cleared_by : ℕ → View → FrameState → Result
 cleared_by f s frame-state.Host = told s NotWaiting
-cleared_by f s frame-state.Waiting = result (set s.frames f 0) s.map (decision Kept (Done 0))
+cleared_by f s frame-state.Waiting = result_with (set s.frames f 0) s.map (decision Kept (Done 0))
 cleared_by f s (frame-state.Owned v b g) = told s NotWaiting
 cleared_by f s frame-state.Damaged = told s Damaged
 

@@ -1,7 +1,7 @@
 ghost use Rattle.std.specs.Prelude.{◌≡◌, ◌++◌, ℕ, length};
 ghost use Rattle.commands.specs.State.{state, answered};
 ghost use Rattle.commands.specs.Tests.{first_refusal, refusal_by};
-ghost use Rattle.commands.specs.Command.{view, both_tables, length_tests, result, result_of};
+ghost use Rattle.commands.specs.Command.{view, both_tables, length_tests, result_with, result_of};
 ghost use Rattle.records.specs.declared.guest.Guest.{Guest};
 ghost use Rattle.records.specs.declared.monitor.Monitor.{Monitor};
 ghost use Rattle.host_frames.specs.Calls.{range_tests, cleared_command, cleared_of, access_command, host_access_of};
@@ -14,16 +14,16 @@ use words::FrameWord;
 
 // The host confirms that a waiting frame was cleared, and the frame is the host's. It answers for any tables and frame number.
 pub fn cleared(frames: &mut [u32], map: &[u32], frame: u64) -> Answer
-    ensures* { λ r. ⌜ ((records : Monitor) → answered (state frames.new map.now records) r
-        ≡ cleared_of frame (state frames.old map.now records)) ⌝ }
+    ensures { (records : Monitor) → answered (state frames.new map.now records) result
+        ≡ cleared_of frame (state frames.old map.now records) }
 {
     decide_cleared(frames, map, frame).answer
 }
 
 // What cleared decides. It has no slot and looks at no record, so the equation holds with any. The frame table it changes.
 pub fn decide_cleared(frames: &mut [u32], map: &[u32], frame: u64) -> Decision
-    ensures* { λ r. ⌜ ((slot : ℕ) (guest : Guest) → result frames.new map.now r
-        ≡ result_of (cleared_command frame) (view frames.old map.now slot guest)) ⌝ }
+    ensures { (slot : ℕ) (guest : Guest) → result_with frames.new map.now result
+        ≡ result_of (cleared_command frame) (view frames.old map.now slot guest) }
 {
     match range_admission(frames, map, frame) {
         Admission::Refused(answer) => Decision::keep(answer),
@@ -46,16 +46,16 @@ pub fn decide_cleared(frames: &mut [u32], map: &[u32], frame: u64) -> Decision
 
 // Whether the host may access a frame: 1 or 0. It answers for any tables and frame number.
 pub fn access(frames: &[u32], map: &[u32], frame: u64) -> Answer
-    ensures* { λ r. ⌜ ((records : Monitor) → answered (state frames.now map.now records) r
-        ≡ host_access_of frame (state frames.now map.now records)) ⌝ }
+    ensures { (records : Monitor) → answered (state frames.now map.now records) result
+        ≡ host_access_of frame (state frames.now map.now records) }
 {
     decide_access(frames, map, frame).answer
 }
 
 // What access decides. It has no slot and looks at no record, so the equation holds with any.
 pub fn decide_access(frames: &[u32], map: &[u32], frame: u64) -> Decision
-    ensures* { λ r. ⌜ ((slot : ℕ) (guest : Guest) → result frames.now map.now r
-        ≡ result_of (access_command frame) (view frames.now map.now slot guest)) ⌝ }
+    ensures { (slot : ℕ) (guest : Guest) → result_with frames.now map.now result
+        ≡ result_of (access_command frame) (view frames.now map.now slot guest) }
 {
     match range_admission(frames, map, frame) {
         Admission::Refused(answer) => Decision::keep(answer),
@@ -80,7 +80,7 @@ pub fn decide_access(frames: &[u32], map: &[u32], frame: u64) -> Decision
 
 // The tests before any word is looked at: the tables' lengths, a frame of the table.
 fn range_admission(frames: &[u32], map: &[u32], frame: u64) -> Admission
-    ensures* { λ r. ⌜ refusal_by r ≡ first_refusal (length_tests both_tables frames.now map.now ++ range_tests (length frames.now) frame) ⌝ }
+    ensures { refusal_by result ≡ first_refusal (length_tests both_tables frames.now map.now ++ range_tests (length frames.now) frame) }
 {
     Admission::Passed
         .check(lengths_hold(frames.len(), map.len()), Answer::BadLength)

@@ -1,7 +1,7 @@
 ghost use Rattle.std.specs.Prelude.{◌≡◌, true, false, List, ◌++◌, ℕ};
 ghost use Rattle.commands.specs.State.{state, answered};
 ghost use Rattle.commands.specs.Tests.{first_refusal, refusal_by};
-ghost use Rattle.commands.specs.Command.{view, both_tables, length_tests, result, result_of};
+ghost use Rattle.commands.specs.Command.{view, both_tables, length_tests, result_with, result_of};
 ghost use Rattle.records.specs.declared.guest.Guest.{Guest};
 ghost use Rattle.host_guests.specs.Calls.{create_tests, create_command, create_of, run_command, run_of};
 
@@ -13,24 +13,24 @@ use tables::{lengths_hold, row};
 
 // A guest with ranges is created in the lowest slot that is not live. It answers for any tables and records.
 pub fn create(monitor: Monitor, frames: &[u32], map: &[u32]) -> Reply
-    ensures* { λ r. ⌜ answered (state frames.now map.now r.monitor) r.answer
-        ≡ create_of false (state frames.now map.now monitor) ⌝ }
+    ensures { answered (state frames.now map.now result.monitor) result.answer
+        ≡ create_of false (state frames.now map.now monitor) }
 {
     create_kind(monitor, frames, map, false)
 }
 
 // The same for a guest that knows no ranges.
 pub fn create_legacy(monitor: Monitor, frames: &[u32], map: &[u32]) -> Reply
-    ensures* { λ r. ⌜ answered (state frames.now map.now r.monitor) r.answer
-        ≡ create_of true (state frames.now map.now monitor) ⌝ }
+    ensures { answered (state frames.now map.now result.monitor) result.answer
+        ≡ create_of true (state frames.now map.now monitor) }
 {
     create_kind(monitor, frames, map, true)
 }
 
 // A guest of either kind is created.
 fn create_kind(monitor: Monitor, frames: &[u32], map: &[u32], legacy: bool) -> Reply
-    ensures* { λ r. ⌜ answered (state frames.now map.now r.monitor) r.answer
-        ≡ create_of legacy (state frames.now map.now monitor) ⌝ }
+    ensures { answered (state frames.now map.now result.monitor) result.answer
+        ≡ create_of legacy (state frames.now map.now monitor) }
 {
     let slot = monitor.free_slot();
     decide_create(frames, map, slot, legacy).reply(monitor, slot)
@@ -38,15 +38,15 @@ fn create_kind(monitor: Monitor, frames: &[u32], map: &[u32], legacy: bool) -> R
 
 // What create decides of the slot that it would take: the lowest that is not live, or 8. It looks at no record, so the equation holds with any.
 pub fn decide_create(frames: &[u32], map: &[u32], slot: u64, legacy: bool) -> Decision
-    ensures* { λ r. ⌜ ((guest : Guest) → result frames.now map.now r
-        ≡ result_of (create_command legacy) (view frames.now map.now slot guest)) ⌝ }
+    ensures { (guest : Guest) → result_with frames.now map.now result
+        ≡ result_of (create_command legacy) (view frames.now map.now slot guest) }
 {
     create_admission(frames, map, slot).decide(Change::Created { legacy }, Answer::Done(slot))
 }
 
 // The guest in a slot is run. It answers for any slot number and records.
 pub fn run(monitor: Monitor, slot: u64) -> Reply
-    ensures* { λ r. ⌜ ((frames map : List ℕ) → answered (state frames map r.monitor) r.answer ≡ run_of slot (state frames map monitor)) ⌝ }
+    ensures { (frames map : List ℕ) → answered (state frames map result.monitor) result.answer ≡ run_of slot (state frames map monitor) }
 {
     let guest = monitor.guest(slot);
     decide_run(guest, slot).reply(monitor, slot)
@@ -54,7 +54,7 @@ pub fn run(monitor: Monitor, slot: u64) -> Reply
 
 // What run decides by the record of its slot, any record where the slot is above 7.
 pub fn decide_run(guest: Guest, slot: u64) -> Decision
-    ensures* { λ r. ⌜ ((frames map : List ℕ) → result frames map r ≡ result_of (run_command slot) (view frames map slot guest)) ⌝ }
+    ensures { (frames map : List ℕ) → result_with frames map result ≡ result_of (run_command slot) (view frames map slot guest) }
 {
     Admission::Passed
         .check(guest.lives_in(slot), Answer::NoGuest)
@@ -63,7 +63,7 @@ pub fn decide_run(guest: Guest, slot: u64) -> Decision
 
 // The tests of create, for the slot that it would take. A table whose length is out of bounds is not walked.
 fn create_admission(frames: &[u32], map: &[u32], slot: u64) -> Admission
-    ensures* { λ r. ⌜ refusal_by r ≡ first_refusal (length_tests both_tables frames.now map.now ++ create_tests map.now slot) ⌝ }
+    ensures { refusal_by result ≡ first_refusal (length_tests both_tables frames.now map.now ++ create_tests map.now slot) }
 {
     if lengths_hold(frames.len(), map.len()) {
         Admission::Passed

@@ -1,7 +1,7 @@
 ghost use Rattle.std.specs.Prelude.{◌≡◌, List, [], ℕ, ◌≤◌, length};
 ghost use Rattle.tables.specs.Row.{bounds_of, place_at};
 ghost use Rattle.commands.specs.Tests.{first_refusal, refusal_by};
-ghost use Rattle.commands.specs.Command.{view, tests_of, result, result_of};
+ghost use Rattle.commands.specs.Command.{view, tests_of, result_with, result_of};
 ghost use Rattle.host_guests.specs.Calls.{show_command, shown_by, show_of};
 
 use answers::Answer;
@@ -12,16 +12,16 @@ use tables::{map_length_holds, row};
 // The row of the guest in a slot, as that part of the map table itself, which begins at the row's first word; where the call is refused, an
 // empty part. It answers for any map table, slot number and records.
 pub fn show(monitor: Monitor, map: &[u32], slot: u64) -> &[u32]
-    ensures* r_value { λ r. ⌜ r.now ≡ (show_of slot monitor map.now).part ⌝ }
-    ensures* fact { λ r. ⌜ (1 ≤ length r.now → r.ref_ptr ≡ place_at map.entry.ref_ptr (bounds_of (length map.now) slot).start) ⌝ }
+    ensures r_value { result.now ≡ (show_of slot monitor map.now).part }
+    ensures fact { (1 ≤ length result.now → result.ref_ptr ≡ place_at map.entry.ref_ptr (bounds_of (length map.now) slot).start) }
 {
     show_row(monitor.guest(slot), map, slot)
 }
 
 // The same by the record of the slot, any record where the slot is above 7.
 pub fn show_row(guest: Guest, map: &[u32], slot: u64) -> &[u32]
-    ensures* { λ r. ⌜ (r.now ≡ (shown_by slot guest map.now).part)
-        × (1 ≤ length r.now → r.ref_ptr ≡ place_at map.entry.ref_ptr (bounds_of (length map.now) slot).start) ⌝ }
+    ensures { (result.now ≡ (shown_by slot guest map.now).part)
+        × (1 ≤ length result.now → result.ref_ptr ≡ place_at map.entry.ref_ptr (bounds_of (length map.now) slot).start) }
 {
     match show_admission(map, guest, slot) {
         Admission::Refused(_) => &map[0..0],
@@ -31,21 +31,21 @@ pub fn show_row(guest: Guest, map: &[u32], slot: u64) -> &[u32]
 
 // The verdict of the same call.
 pub fn show_verdict(monitor: Monitor, map: &[u32], slot: u64) -> Answer
-    ensures* { λ r. ⌜ r ≡ (show_of slot monitor map.now).answer ⌝ }
+    ensures { result ≡ (show_of slot monitor map.now).answer }
 {
     decide_show(monitor.guest(slot), map, slot).answer
 }
 
 // What show decides by the record of its slot, any record where the slot is above 7.
 pub fn decide_show(guest: Guest, map: &[u32], slot: u64) -> Decision
-    ensures* { λ r. ⌜ ((frames : List ℕ) → result frames map.now r ≡ result_of (show_command slot) (view frames map.now slot guest)) ⌝ }
+    ensures { (frames : List ℕ) → result_with frames map.now result ≡ result_of (show_command slot) (view frames map.now slot guest) }
 {
     show_admission(map, guest, slot).decide(Change::Kept, Answer::Done(0))
 }
 
 // The tests of show, of the record of the slot's guest.
 fn show_admission(map: &[u32], guest: Guest, slot: u64) -> Admission
-    ensures* { λ r. ⌜ refusal_by r ≡ first_refusal (tests_of (show_command slot) (view [] map.now slot guest)) ⌝ }
+    ensures { refusal_by result ≡ first_refusal (tests_of (show_command slot) (view [] map.now slot guest)) }
 {
     Admission::Passed
         .check(map_length_holds(map.len()), Answer::BadLength)

@@ -1,7 +1,7 @@
 ghost use Rattle.std.specs.Prelude.{◌≡◌, List, ◌++◌, ℕ};
 ghost use Rattle.commands.specs.State.{state, answered};
 ghost use Rattle.commands.specs.Tests.{first_refusal, refusal_by};
-ghost use Rattle.commands.specs.Command.{view, live_tests, result, result_of};
+ghost use Rattle.commands.specs.Command.{view, live_tests, result_with, result_of};
 ghost use Rattle.host_registers.specs.Registers.{read_tests, read_command, write_command, register_read_of, register_write_of};
 
 use crate::registers::{is_known, limit, numbered};
@@ -11,7 +11,7 @@ use records::{Change, FirmwareRegister, Guest, Monitor};
 
 // The host reads a firmware register of the guest in a slot. It answers for any slot number, register number and records.
 pub fn register_read(monitor: Monitor, slot: u64, number: u64) -> Reply
-    ensures* { λ r. ⌜ ((frames map : List ℕ) → answered (state frames map r.monitor) r.answer ≡ register_read_of slot number (state frames map monitor)) ⌝ }
+    ensures { (frames map : List ℕ) → answered (state frames map result.monitor) result.answer ≡ register_read_of slot number (state frames map monitor) }
 {
     let guest = monitor.guest(slot);
     decide_register_read(guest, slot, number).reply(monitor, slot)
@@ -19,7 +19,7 @@ pub fn register_read(monitor: Monitor, slot: u64, number: u64) -> Reply
 
 // What a read decides by the record of its slot, any record where the slot is above 7.
 pub fn decide_register_read(guest: Guest, slot: u64, number: u64) -> Decision
-    ensures* { λ r. ⌜ ((frames map : List ℕ) → result frames map r ≡ result_of (read_command slot number) (view frames map slot guest)) ⌝ }
+    ensures { (frames map : List ℕ) → result_with frames map result ≡ result_of (read_command slot number) (view frames map slot guest) }
 {
     let register = numbered(number);
     read_admission(guest, slot, register).decide(Change::Kept, Answer::Done(register.bitmap(guest)))
@@ -27,7 +27,7 @@ pub fn decide_register_read(guest: Guest, slot: u64, number: u64) -> Decision
 
 // The host writes a firmware register of the guest in a slot. It answers for any slot number, register number, value and records.
 pub fn register_write(monitor: Monitor, slot: u64, number: u64, value: u64) -> Reply
-    ensures* { λ r. ⌜ ((frames map : List ℕ) → answered (state frames map r.monitor) r.answer ≡ register_write_of slot number value (state frames map monitor)) ⌝ }
+    ensures { (frames map : List ℕ) → answered (state frames map result.monitor) result.answer ≡ register_write_of slot number value (state frames map monitor) }
 {
     let guest = monitor.guest(slot);
     decide_register_write(guest, slot, number, value).reply(monitor, slot)
@@ -36,7 +36,7 @@ pub fn register_write(monitor: Monitor, slot: u64, number: u64, value: u64) -> R
 // What a write decides by the record of its slot, any record where the slot is above 7. Its tests are those of a read, no bit outside the
 // limit, and a guest that was not run.
 pub fn decide_register_write(guest: Guest, slot: u64, number: u64, value: u64) -> Decision
-    ensures* { λ r. ⌜ ((frames map : List ℕ) → result frames map r ≡ result_of (write_command slot number value) (view frames map slot guest)) ⌝ }
+    ensures { (frames map : List ℕ) → result_with frames map result ≡ result_of (write_command slot number value) (view frames map slot guest) }
 {
     let register = numbered(number);
     read_admission(guest, slot, register)
@@ -47,7 +47,7 @@ pub fn decide_register_write(guest: Guest, slot: u64, number: u64, value: u64) -
 
 // The tests of a read: a live guest, a register's number.
 fn read_admission(guest: Guest, slot: u64, register: FirmwareRegister) -> Admission
-    ensures* { λ r. ⌜ refusal_by r ≡ first_refusal (live_tests slot guest ++ read_tests register) ⌝ }
+    ensures { refusal_by result ≡ first_refusal (live_tests slot guest ++ read_tests register) }
 {
     Admission::Passed
         .check(guest.lives_in(slot), Answer::NoGuest)

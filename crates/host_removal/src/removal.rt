@@ -2,7 +2,7 @@ ghost use Rattle.std.specs.Prelude.{◌≡◌, length};
 ghost use Rattle.tables.specs.Row.{row_of, with_row};
 ghost use Rattle.commands.specs.State.{state, answered};
 ghost use Rattle.commands.specs.Tests.{first_refusal, refusal_by};
-ghost use Rattle.commands.specs.Command.{view, tests_of, result, result_of};
+ghost use Rattle.commands.specs.Command.{view, tests_of, result_with, result_of};
 ghost use Rattle.rows.specs.WholeRow.{vacant_row, frames_freed, frames_named};
 ghost use Rattle.host_removal.specs.Calls.{remove_command, remove_of};
 
@@ -14,8 +14,8 @@ use tables::{lengths_hold, row, row_bounds};
 
 // The guest in a slot is removed: its row is vacant, its frames wait to be cleared. It answers for any tables, slot number and records.
 pub fn remove(monitor: Monitor, frames: &mut [u32], map: &mut [u32], slot: u64) -> Reply
-    ensures* { λ r. ⌜ answered (state frames.new map.new r.monitor) r.answer
-        ≡ remove_of slot (state frames.old map.old monitor) ⌝ }
+    ensures { answered (state frames.new map.new result.monitor) result.answer
+        ≡ remove_of slot (state frames.old map.old monitor) }
 {
     let guest = monitor.guest(slot);
     let decision = decide_remove(guest, frames, map, slot);
@@ -24,8 +24,8 @@ pub fn remove(monitor: Monitor, frames: &mut [u32], map: &mut [u32], slot: u64) 
 
 // What remove decides by the record of its slot, any record where the slot is above 7. The tables it changes.
 pub fn decide_remove(guest: Guest, frames: &mut [u32], map: &mut [u32], slot: u64) -> Decision
-    ensures* { λ r. ⌜ result frames.new map.new r
-        ≡ result_of (remove_command slot) (view frames.old map.old slot guest) ⌝ }
+    ensures { result_with frames.new map.new result
+        ≡ result_of (remove_command slot) (view frames.old map.old slot guest) }
 {
     match remove_admission(frames, map, slot, guest) {
         Admission::Refused(answer) => Decision::keep(answer),
@@ -41,7 +41,7 @@ pub fn decide_remove(guest: Guest, frames: &mut [u32], map: &mut [u32], slot: u6
 
 // The tests of remove, of the record of the slot's guest. A table whose length is out of bounds is not walked.
 fn remove_admission(frames: &[u32], map: &[u32], slot: u64, guest: Guest) -> Admission
-    ensures* { λ r. ⌜ refusal_by r ≡ first_refusal (tests_of (remove_command slot) (view frames.now map.now slot guest)) ⌝ }
+    ensures { refusal_by result ≡ first_refusal (tests_of (remove_command slot) (view frames.now map.now slot guest)) }
 {
     if lengths_hold(frames.len(), map.len()) {
         Admission::Passed
@@ -57,9 +57,9 @@ fn remove_admission(frames: &[u32], map: &[u32], slot: u64, guest: Guest) -> Adm
 
 // The row of a slot, lent on as a part of the map table, made vacant. The answer is the number of frames that it named.
 fn vacate_slot(frames: &mut [u32], map: &mut [u32], slot: u64) -> u64
-    ensures* { λ r. ⌜ (map.new ≡ with_row map.old slot (vacant_row (length (row_of map.old slot))))
+    ensures { (map.new ≡ with_row map.old slot (vacant_row (length (row_of map.old slot))))
         × (frames.new ≡ frames_freed (row_of map.old slot) frames.old)
-        × (r ≡ frames_named (row_of map.old slot)) ⌝ }
+        × (result ≡ frames_named (row_of map.old slot)) }
 {
     let bounds = row_bounds(map.len(), slot);
     let start = bounds.start;
