@@ -12,7 +12,7 @@ use granules::{Kind, Operation};
 use words::Granule;
 
 // How many granules a call works on.
-#[derive(Drop)]
+#[derive(Clone, Copy)]
 pub enum Count {
     One,
     // R2 says how many.
@@ -22,7 +22,7 @@ pub enum Count {
 }
 
 // What a call does once its tests have passed.
-#[derive(Drop)]
+#[derive(Clone, Copy)]
 pub enum Action {
     // It answers these registers.
     Tell { r0: u32, r1: u32, r2: u32, r3: u32 },
@@ -33,7 +33,7 @@ pub enum Action {
 }
 
 // A row of the table of guest calls: what is asked of R1 to R3 and of the record, the answer where it does not hold, and what the call does.
-#[derive(Drop)]
+#[derive(Clone, Copy)]
 pub struct CallRow {
     pub r1: Rule,
     pub r2: Rule,

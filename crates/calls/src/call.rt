@@ -15,7 +15,7 @@ use host_removal::decide_remove;
 use records::{Guest, Monitor};
 
 // A call with its arguments, any numbers.
-#[derive(Drop)]
+#[derive(Clone, Copy)]
 pub enum Call {
     Create {
         legacy: bool,

@@ -7,7 +7,7 @@ use answers::Answer;
 use records::Change;
 
 // Whether tests let a call pass, or the answer of the first that did not.
-#[derive(Drop)]
+#[derive(Clone, Copy)]
 pub enum Admission {
     Passed,
     Refused(Answer),

@@ -7,14 +7,14 @@ use answers::Answer;
 use records::{Change, Monitor};
 
 // What a call that has looked decides: what it does to the record of its slot, and its answer.
-#[derive(Drop)]
+#[derive(Clone, Copy)]
 pub struct Decision {
     pub change: Change,
     pub answer: Answer,
 }
 
 // What a call hands back.
-#[derive(Drop)]
+#[derive(Clone, Copy)]
 pub struct Reply {
     pub monitor: Monitor,
     pub answer: Answer,

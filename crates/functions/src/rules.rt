@@ -6,7 +6,7 @@ use records::Guest;
 use words::Granule;
 
 // A guest's registers at a hypercall.
-#[derive(Drop)]
+#[derive(Clone, Copy)]
 pub struct Registers {
     pub r0: u64,
     pub r1: u64,
@@ -15,7 +15,7 @@ pub struct Registers {
 }
 
 // What a call asks of a register.
-#[derive(Drop)]
+#[derive(Clone, Copy)]
 pub enum Rule {
     Any,
     Zero,
@@ -25,7 +25,7 @@ pub enum Rule {
 }
 
 // What a call asks of the caller's record.
-#[derive(Drop)]
+#[derive(Clone, Copy)]
 pub enum Condition {
     Nothing,
     // Bit 0 of VENDOR_HYP.
@@ -34,7 +34,7 @@ pub enum Condition {
 }
 
 // What a call that can't be done answers in R0.
-#[derive(Drop)]
+#[derive(Clone, Copy)]
 pub enum Error {
     // −1
     NotSupported,

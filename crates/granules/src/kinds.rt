@@ -2,7 +2,7 @@ ghost use Rattle.std.specs.Prelude.{◌≡◌};
 ghost use Rattle.granules.specs.Comparison.{has_frame, is_shared, is_guarded};
 
 // The kind of a granule that is not damaged.
-#[derive(Drop)]
+#[derive(Clone, Copy)]
 pub enum Kind {
     Vacant,
     Private,
@@ -11,7 +11,7 @@ pub enum Kind {
 }
 
 // What a call does to a granule, as data: the kind that it needs and the kind that it makes. The frame follows the kind that is made.
-#[derive(Drop)]
+#[derive(Clone, Copy)]
 pub struct Operation {
     pub needs: Kind,
     pub makes: Kind,

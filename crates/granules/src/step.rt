@@ -10,7 +10,7 @@ use pairs::{Comparison, compare_frame, granule_state};
 use words::{FrameWord, Granule, MapWord};
 
 // How a single step, or a range of them, ended.
-#[derive(Drop)]
+#[derive(Clone, Copy)]
 pub enum Outcome {
     Done,
     // The granule is beyond the row, or not of the kind that the operation needs.

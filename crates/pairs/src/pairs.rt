@@ -8,7 +8,7 @@ use tables::row;
 use words::{FrameWord, Granule, MapWord};
 
 // What a granule holds. Damaged: its map word is, or is not named back.
-#[derive(Drop)]
+#[derive(Clone, Copy)]
 pub enum GranuleState {
     Vacant,
     Frame { shared: bool, frame: usize },
@@ -47,7 +47,7 @@ impl GranuleState {
 }
 
 // How a granule compares with one of some kind.
-#[derive(Drop)]
+#[derive(Clone, Copy)]
 pub enum Comparison {
     // It is of another kind, or damaged.
     Differs,
@@ -58,7 +58,7 @@ pub enum Comparison {
 }
 
 // Whose a frame is. Damaged: its frame word is, or is not named back.
-#[derive(Drop)]
+#[derive(Clone, Copy)]
 pub enum FrameState {
     Host,
     Waiting,

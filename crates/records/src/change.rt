@@ -4,7 +4,7 @@ ghost use Rattle.records.specs.Change.{bitmap_of, with_bitmap, changed, alters};
 use crate::guest::Guest;
 
 // The firmware registers, in the order of their numbers.
-#[derive(Drop)]
+#[derive(Clone, Copy)]
 pub enum FirmwareRegister {
     Std,
     StdHyp,
@@ -14,7 +14,7 @@ pub enum FirmwareRegister {
 }
 
 // What a call does to the record of its slot.
-#[derive(Drop)]
+#[derive(Clone, Copy)]
 pub enum Change {
     Kept,
     // With the kind of the guest.

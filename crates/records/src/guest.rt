@@ -5,7 +5,7 @@ ghost use Rattle.records.specs.Monitor.{zero_guest, live_in, guest_in, words_of}
 pub const GUEST_WORDS: usize = 7;
 
 // The record of a guest slot. A slot that is not live has no guest, whatever else its record holds.
-#[derive(Drop)]
+#[derive(Clone, Copy)]
 pub struct Guest {
     pub live: bool,
     // It knows no ranges of granules.

@@ -6,7 +6,7 @@ use crate::change::Change;
 use crate::guest::Guest;
 
 // The monitor's state: the records of the eight guest slots. A call takes it by value and hands it back.
-#[derive(Drop)]
+#[derive(Clone, Copy)]
 pub struct Monitor {
     pub guests: [Guest; 8],
 }

@@ -5,7 +5,7 @@ use trace::PIECE;
 use trace_lines::ROOM;
 
 // What a read came to.
-#[derive(Drop)]
+#[derive(Clone, Copy)]
 pub(crate) enum Piece {
     Failed,
     // The end of the log.

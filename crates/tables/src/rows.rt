@@ -3,7 +3,7 @@ ghost use Rattle.tables.specs.Length.{width_of};
 ghost use Rattle.tables.specs.Row.{bounds_of, row_of, place_at};
 
 // Where a slot's row stands in a map table: from word `start` to before word `end`.
-#[derive(Drop)]
+#[derive(Clone, Copy)]
 pub struct RowBounds {
     pub start: usize,
     pub end: usize,

@@ -21,7 +21,7 @@ pub const MAP_WORDS: usize = 512;
 pub const PIECE: usize = 6236;
 
 // What a replay keeps beside the tables.
-#[derive(Drop)]
+#[derive(Clone, Copy)]
 pub struct Session {
     pub monitor: Monitor,
     // The number of answered records.
@@ -32,14 +32,14 @@ pub struct Session {
 
 // What a record that asks for a call came to, beside the tables: what is to be done to the record of the call's slot, and how far the buffer is
 // filled.
-#[derive(Drop)]
+#[derive(Clone, Copy)]
 pub struct AnsweredRecord {
     pub change: Change,
     pub put: usize,
 }
 
 // How far a replay got: the bytes taken, and the bytes put into the buffer.
-#[derive(Drop)]
+#[derive(Clone, Copy)]
 pub struct ReplayProgress {
     pub session: Session,
     pub taken: usize,
@@ -48,7 +48,7 @@ pub struct ReplayProgress {
 
 // What a piece came to, beside the tables: the bytes of an unfinished record, held at the front of the input for the next piece, and the bytes
 // put into the buffer.
-#[derive(Drop)]
+#[derive(Clone, Copy)]
 pub struct Turn {
     pub session: Session,
     pub held: usize,

@@ -8,7 +8,7 @@ use functions::Registers;
 pub const VERSION: u8 = 1;
 
 // The kinds of records.
-#[derive(Drop)]
+#[derive(Clone, Copy)]
 pub enum RecordKind {
     Create,
     Donate,
@@ -39,7 +39,7 @@ pub(crate) const KINDS: [RecordKind; 11] = [
 ];
 
 // What a number stands for.
-#[derive(Drop)]
+#[derive(Clone, Copy)]
 pub enum Found {
     Known(RecordKind),
     // It belongs to no kind.

@@ -9,7 +9,7 @@ use answers::Numbers;
 const LONGEST: usize = 105;
 
 // A line of a replay's output.
-#[derive(Drop)]
+#[derive(Clone, Copy)]
 pub enum Line {
     // Before any record.
     First,

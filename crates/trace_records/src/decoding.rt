@@ -7,7 +7,7 @@ use calls::Call;
 use trace_kinds::{Found, RecordKind, start_holds};
 
 // What the first bytes of a log are.
-#[derive(Drop)]
+#[derive(Clone, Copy)]
 pub enum Decoded {
     // A good record: what it asks for, and where the next record begins.
     Record(Call, usize),

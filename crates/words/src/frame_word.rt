@@ -4,7 +4,7 @@ ghost use Rattle.words.specs.FrameWord.{frame_word_of, frame_bits, names_granule
 use crate::fields::low_half;
 
 // What a frame word says by itself.
-#[derive(Drop)]
+#[derive(Clone, Copy)]
 pub enum FrameWord {
     Host,
     Waiting,

@@ -2,11 +2,11 @@ ghost use Rattle.std.specs.Prelude.{◌≡◌};
 ghost use Rattle.words.specs.Granule.{granule_of, is_base, address_at};
 
 // The number of a granule in a guest address space. It is no address.
-#[derive(Drop)]
+#[derive(Clone, Copy)]
 pub struct Granule(pub u64);
 
 // The first address of a granule, where 64 bits hold it.
-#[derive(Drop)]
+#[derive(Clone, Copy)]
 pub enum Address {
     At(u64),
     Beyond,

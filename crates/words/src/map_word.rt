@@ -4,7 +4,7 @@ ghost use Rattle.words.specs.MapWord.{map_word_of, map_bits, names_frame, bare_w
 use crate::fields::low_half;
 
 // What a map word says by itself.
-#[derive(Drop)]
+#[derive(Clone, Copy)]
 pub enum MapWord {
     Vacant,
     Frame { shared: bool, frame: usize },
