@@ -12,8 +12,8 @@ use tables::{map_length_holds, row};
 // The row of the guest in a slot, as that part of the map table itself, which begins at the row's first word; where the call is refused, an
 // empty part. It answers for any map table, slot number and records.
 pub fn show(monitor: Monitor, map: &[u32], slot: u64) -> &[u32]
-    ensures r_value { result.now ≡ (show_of slot monitor map.now).part }
-    ensures fact { (1 ≤ length result.now → result.ref_ptr ≡ place_at map.entry.ref_ptr (bounds_of (length map.now) slot).start) }
+    ensures words { result.now ≡ (show_of slot monitor map.now).part }
+    ensures place { 1 ≤ length result.now → result.ref_ptr ≡ place_at map.entry.ref_ptr (bounds_of (length map.now) slot).start }
 {
     show_row(monitor.guest(slot), map, slot)
 }

@@ -34,8 +34,8 @@ pub fn row_bounds(words: usize, slot: u64) -> RowBounds
 
 // The row itself, as that part of the map table: its words, and where they stand.
 pub fn row(map: &[u32], slot: u64) -> &[u32]
-    ensures result_value { result.now ≡ row_of map.now slot }
-    ensures ref_ptr_value { result.ref_ptr ≡ place_at map.entry.ref_ptr (bounds_of (length map.now) slot).start }
+    ensures words { result.now ≡ row_of map.now slot }
+    ensures place { result.ref_ptr ≡ place_at map.entry.ref_ptr (bounds_of (length map.now) slot).start }
 {
     let at = row_bounds(map.len(), slot);
     let start = at.start;
