@@ -1,0 +1,74 @@
+-- Beyond the row it is refused. Else by the comparison of the granule with the kind that is needed: what it has is written, or the pair test
+-- says why nothing is.
+use mathlib.Core.Path.{◌≡◌, refl, sym, ◌∙◌}
+use mathlib.Core.Bool.{true, false}
+use native.Mathlib.Omega.{arith}
+use lib.ListN.{get_or}
+use Rattle.words.specs.FrameWord.{frame_bits}
+use Rattle.granules.specs.Comparison.{is_shared}
+use Rattle.granules.proofs.ChangeLaws.{FramePair, frame_pair}
+use Rattle.granules.proofs.KindLaws.{frame_of}
+use Rattle.granules.proofs.StepLaws.{beyond_row, differs, bare_left, bare_done, frame_done}
+use borrow.Author.Rules.{rules}
+use Rattle.granules.proofs.step.change_granule.Goals as goal
+use Rattle.granules.proofs.step.change_granule.Goals.{In-Frame}
+
+-- the words of a granule that has a frame
+words : (c : In-Frame) → let a = c.args in
+    FramePair a.frames.now a.slot a.granule.0 (get_or a.row.now a.granule.0 0) (is_shared a.operation.needs) c.in-Frame.frame
+words c = frame_pair _ _ _ _ _ _ (sym (frame_of _ _ _ (sym c.in-Frame.is ∙ c.compare.ensures)))
+
+pub returns-then-row-number : goal.returns-then-row-number
+returns-then-row-number c = beyond_row _ _ _ _ _ c.if-row-number.true
+
+pub returns-then-has_frame : goal.returns-then-has_frame
+returns-then-has_frame c =
+    let a = c.args in
+    bare_left _ _ _ a.row.now _ c.if-row-number.false _ c.compare.ensures c.in-Bare.is (sym c.has_frame.ensures ∙ c.if-has_frame.true)
+
+pub offset_bounds-frames-frame : goal.offset_bounds-frames-frame
+offset_bounds-frames-frame c = omega (arith, (words (goal.at.offset_bounds-frames-frame c).In-Frame).inside)
+
+pub bounds-frames-frame : goal.bounds-frames-frame
+bounds-frames-frame c = (words (goal.at.bounds-frames-frame c).In-Frame).inside
+
+pub offset_bounds-frames-frame-then-has_frame-2 : goal.offset_bounds-frames-frame-then-has_frame-2
+offset_bounds-frames-frame-then-has_frame-2 c = omega (arith, (words (goal.at.offset_bounds-frames-frame-then-has_frame-2 c).In-Frame).inside)
+
+pub bounds-frames-frame-then-has_frame-2 : goal.bounds-frames-frame-then-has_frame-2
+bounds-frames-frame-then-has_frame-2 c = (words (goal.at.bounds-frames-frame-then-has_frame-2 c).In-Frame).inside
+
+pub returns-then-has_frame-2 : goal.returns-then-has_frame-2
+returns-then-has_frame-2 c =
+    let a = c.args in
+    let w = words (goal.at.returns-then-has_frame-2 c).In-Frame in
+    let from : c.is_shared-from.result ≡ is_shared a.operation.needs = c.is_shared-from.ensures in
+    let says = rw (← from) at w.word in
+    let owns = rw (← from) at w.owner in
+    frame_done _ _ _ a.row.now _ c.if-row-number.false _ c.compare.ensures _ c.in-Frame.is true (sym c.has_frame-in-Frame.ensures ∙ c.if-has_frame-2.true) _ _
+    (rw c.is_shared-to.ensures at (c.reshared.ensures _ says))
+    (rw c.is_shared-to.ensures at (c.reshared-then-has_frame-2.ensures _ _ owns))
+
+pub offset_bounds-frames-frame-in-Frame : goal.offset_bounds-frames-frame-in-Frame
+offset_bounds-frames-frame-in-Frame c = omega (arith, (words (goal.at.offset_bounds-frames-frame-in-Frame c).In-Frame).inside)
+
+pub bounds-frames-frame-in-Frame : goal.bounds-frames-frame-in-Frame
+bounds-frames-frame-in-Frame c = (words (goal.at.bounds-frames-frame-in-Frame c).In-Frame).inside
+
+pub returns-in-Differs : goal.returns-in-Differs
+returns-in-Differs c =
+    let a = c.args in
+    rw c.refusal.ensures (differs _ _ _ a.row.now _ c.if-row-number.false _ c.compare.ensures c.in-Differs.is)
+
+pub returns-else-has_frame : goal.returns-else-has_frame
+returns-else-has_frame c =
+    let a = c.args in
+    bare_done _ _ _ a.row.now _ c.if-row-number.false _ c.compare.ensures c.in-Bare.is (sym c.has_frame.ensures ∙ c.if-has_frame.false) _
+    (rw c.is_guarded.ensures at c.of_bare.ensures)
+
+pub returns-else-has_frame-2 : goal.returns-else-has_frame-2
+unfolding frame_bits
+returns-else-has_frame-2 c =
+    let a = c.args in
+    frame_done _ _ _ a.row.now _ c.if-row-number.false _ c.compare.ensures _ c.in-Frame.is false (sym c.has_frame-in-Frame.ensures ∙ c.if-has_frame-2.false) _ _
+    (rw c.is_guarded-in-Frame.ensures at c.of_bare-in-Frame.ensures) refl

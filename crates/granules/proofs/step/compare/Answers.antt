@@ -1,0 +1,14 @@
+-- By `compare_frame` where the kind has a frame, and by the map word where it has none.
+use mathlib.Core.Path.{sym, ◌∙◌}
+use mathlib.Core.Bool.{true, false}
+use Rattle.words.specs.MapWord.{map_word_of}
+use Rattle.pairs.specs.Pair.{granule_state}
+use Rattle.granules.proofs.KindLaws.{framed_compared, bare_compared}
+use borrow.Author.Rules.{rules}
+use Rattle.granules.proofs.step.compare.Goals as goal
+
+pub returns-then-is_bare : goal.returns-then-is_bare
+returns-then-is_bare c = bare_compared _ _ _ _ _ (sym c.has_frame.ensures ∙ c.if-has_frame.false) true (rw (← c.is_guarded.ensures) (sym c.is_bare.ensures ∙ c.if-is_bare.true))
+
+pub returns : goal.returns
+returns c = bare_compared _ _ _ _ _ (sym c.has_frame.ensures ∙ c.if-has_frame.false) false (rw (← c.is_guarded.ensures) (sym c.is_bare.ensures ∙ c.if-is_bare.false))
