@@ -1,0 +1,21 @@
+-- The refusal of its tests, or the bitmap written.
+use Rattle.host_registers.specs.Registers.{within_limit, invalid_value, busy, read_tests, write_tests}
+use Rattle.commands.proofs.CommandLaws.{changed_result}
+use Rattle.commands.proofs.TestLaws.{tests_in_order_after}
+use Rattle.records.specs.declared.change.Change.TheVariants.{Written}
+use Rattle.commands.specs.Command.{view, live_tests, host_success}
+use mathlib.Core.List.{[], ◌∷◌, ◌++◌}
+use mathlib.Core.Bool.{not}
+use borrow.Author.Rules.{rules}
+use Rattle.host_registers.proofs.access.decide_register_write.Goals as goal
+
+pub returns : goal.returns
+returns c = λ frames map.
+    let checked = c in
+    let tested = checked in
+    let entry = tested.args in
+    let register = tested.numbered-register.result in
+    rw (c.decide.ensures, c.check-2.ensures, checked.check.ensures, checked.limit.ensures, tested.read_admission.ensures, ← tested.numbered-register.ensures)
+    (changed_result (view frames map entry.slot entry.guest) (live_tests entry.slot entry.guest ++ write_tests register entry.value entry.guest)
+    (tests_in_order_after (live_tests entry.slot entry.guest ++ read_tests register) ((within_limit register entry.value, invalid_value) ∷ (not entry.guest.run, busy) ∷ []))
+    (Written register entry.value) (host_success 0))
