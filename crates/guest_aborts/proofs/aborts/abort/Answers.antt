@@ -9,8 +9,6 @@ use Rattle.guest_aborts.proofs.aborts.abort.Goals as goal
 pub returns : goal.returns
 unfolding abort_of
 returns c =
-    let decided = c in
-    let own = decided in
-    let entry = own.args in
+    let entry = c.args in
     rw c.reply.ensures
-    (applying (abort_command entry.slot entry.ipa) (state entry.frames.now entry.map.now entry.monitor) entry.slot _ _ refl own.guest-guest.ensures decided.decide_abort.ensures)
+    (applying (abort_command entry.slot entry.ipa) (state entry.frames.now entry.map.now entry.monitor) entry.slot _ _ refl c.guest-guest.ensures c.decide_abort.ensures)

@@ -9,8 +9,6 @@ use Rattle.guest_hypercalls.proofs.hypercalls.hypercall.Goals as goal
 pub returns : goal.returns
 unfolding hypercall_of
 returns c =
-    let decided = c in
-    let own = decided in
-    let entry = own.args in
+    let entry = c.args in
     rw c.reply.ensures
-    (applying (hypercall_command entry.slot entry.registers) (state entry.frames.now entry.map.now entry.monitor) entry.slot _ _ refl own.guest-guest.ensures decided.decide_hypercall-decision.ensures)
+    (applying (hypercall_command entry.slot entry.registers) (state entry.frames.now entry.map.now entry.monitor) entry.slot _ _ refl c.guest-guest.ensures c.decide_hypercall-decision.ensures)

@@ -9,8 +9,6 @@ use Rattle.host_donation.proofs.donation.donate.Goals as goal
 pub returns : goal.returns
 unfolding donate_of
 returns c =
-    let decided = c in
-    let own = decided in
-    let entry = own.args in
+    let entry = c.args in
     rw c.reply.ensures
-    (applying (donate_command entry.slot entry.frame entry.granule) (state entry.frames.now entry.map.now entry.monitor) entry.slot _ _ refl own.guest-guest.ensures decided.decide_donate-decision.ensures)
+    (applying (donate_command entry.slot entry.frame entry.granule) (state entry.frames.now entry.map.now entry.monitor) entry.slot _ _ refl c.guest-guest.ensures c.decide_donate-decision.ensures)

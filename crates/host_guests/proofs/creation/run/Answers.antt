@@ -9,7 +9,6 @@ use Rattle.host_guests.proofs.creation.run.Goals as goal
 pub returns : goal.returns
 unfolding run_of
 returns c = λ frames map.
-    let decided = c in
-    let entry = decided.args in
+    let entry = c.args in
     rw c.reply.ensures
-    (applying (run_command entry.slot) (state frames map entry.monitor) entry.slot _ _ refl decided.guest-guest.ensures (decided.decide_run.ensures frames map))
+    (applying (run_command entry.slot) (state frames map entry.monitor) entry.slot _ _ refl c.guest-guest.ensures (c.decide_run.ensures frames map))

@@ -11,11 +11,9 @@ use Rattle.host_registers.proofs.access.decide_register_write.Goals as goal
 
 pub returns : goal.returns
 returns c = λ frames map.
-    let checked = c in
-    let tested = checked in
-    let entry = tested.args in
-    let register = tested.numbered-register.result in
-    rw (c.decide.ensures, c.check-2.ensures, checked.check.ensures, checked.limit.ensures, tested.read_admission.ensures, ← tested.numbered-register.ensures)
+    let entry = c.args in
+    let register = c.numbered-register.result in
+    rw (c.decide.ensures, c.check-2.ensures, c.check.ensures, c.limit.ensures, c.read_admission.ensures, ← c.numbered-register.ensures)
     (changed_result (view frames map entry.slot entry.guest) (live_tests entry.slot entry.guest ++ write_tests register entry.value entry.guest)
     (tests_in_order_after (live_tests entry.slot entry.guest ++ read_tests register) ((within_limit register entry.value, invalid_value) ∷ (not entry.guest.run, busy) ∷ []))
     (Written register entry.value) (host_success 0))

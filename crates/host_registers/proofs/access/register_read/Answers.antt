@@ -9,7 +9,6 @@ use Rattle.host_registers.proofs.access.register_read.Goals as goal
 pub returns : goal.returns
 unfolding register_read_of
 returns c = λ frames map.
-    let decided = c in
-    let entry = decided.args in
+    let entry = c.args in
     rw c.reply.ensures
-    (applying (read_command entry.slot entry.number) (state frames map entry.monitor) entry.slot _ _ refl decided.guest-guest.ensures (decided.decide_register_read.ensures frames map))
+    (applying (read_command entry.slot entry.number) (state frames map entry.monitor) entry.slot _ _ refl c.guest-guest.ensures (c.decide_register_read.ensures frames map))

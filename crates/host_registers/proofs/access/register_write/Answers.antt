@@ -9,7 +9,6 @@ use Rattle.host_registers.proofs.access.register_write.Goals as goal
 pub returns : goal.returns
 unfolding register_write_of
 returns c = λ frames map.
-    let decided = c in
-    let entry = decided.args in
+    let entry = c.args in
     rw c.reply.ensures
-    (applying (write_command entry.slot entry.number entry.value) (state frames map entry.monitor) entry.slot _ _ refl decided.guest-guest.ensures (decided.decide_register_write.ensures frames map))
+    (applying (write_command entry.slot entry.number entry.value) (state frames map entry.monitor) entry.slot _ _ refl c.guest-guest.ensures (c.decide_register_write.ensures frames map))

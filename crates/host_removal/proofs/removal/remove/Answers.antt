@@ -9,8 +9,6 @@ use Rattle.host_removal.proofs.removal.remove.Goals as goal
 pub returns : goal.returns
 unfolding remove_of
 returns c =
-    let decided = c in
-    let own = decided in
-    let entry = own.args in
+    let entry = c.args in
     rw c.reply.ensures
-    (applying (remove_command entry.slot) (state entry.frames.now entry.map.now entry.monitor) entry.slot _ _ refl own.guest-guest.ensures decided.decide_remove-decision.ensures)
+    (applying (remove_command entry.slot) (state entry.frames.now entry.map.now entry.monitor) entry.slot _ _ refl c.guest-guest.ensures c.decide_remove-decision.ensures)

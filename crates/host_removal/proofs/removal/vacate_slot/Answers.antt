@@ -19,5 +19,4 @@ slice_bounds-vacate-end c = (in_order c.args.map.now c.args.slot _ c.row_bounds-
 
 pub returns : goal.returns
 returns c =
-    let bounded = c in
-    row_vacated bounded.args.map.now _ _ bounded.row_bounds-bounds.ensures _ _ _ _ c.vacate.ensures
+    row_vacated c.args.map.now _ _ c.row_bounds-bounds.ensures _ _ _ _ c.vacate.ensures

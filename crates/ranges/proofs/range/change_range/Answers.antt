@@ -22,23 +22,20 @@ returns-then-width-start c =
 
 pub loop-number-preserved : goal.loop-number-preserved
 loop-number-preserved c =
-    let l = c in
     let step = c.change_granule-outcome in
     let one = rw c.in-Done.is at step.ensures in
-    (more l.loop-number.invariant.0 (omega (arith, l.least.ensures)) one step.auto.row step.auto.frames, omega arith)
+    (more c.loop-number.invariant.0 (omega (arith, c.least.ensures)) one step.auto.row step.auto.frames, omega arith)
 
 pub returns-in_default : goal.returns-in_default
 returns-in_default c =
-    let l = c in
     let step = c.change_granule-outcome in
-    let most : l.least-limit.result ≡ min range_limit l.args.count = l.least-limit.ensures in
+    let most : c.least-limit.result ≡ min range_limit c.args.count = c.least-limit.ensures in
     rw (← most)
-    (refused_there l.loop-number.invariant.0 (omega (arith, l.least.ensures)) _ (omega arith) step.result c.in_default.not-Done step.ensures)
+    (refused_there c.loop-number.invariant.0 (omega (arith, c.least.ensures)) _ (omega arith) step.result c.in_default.not-Done step.ensures)
 
 pub returns : goal.returns
 returns c =
-    let l = c in
-    let i = l.loop-number.invariant.0 in
-    let most : l.least-limit.result ≡ min range_limit l.args.count = l.least-limit.ensures in
+    let i = c.loop-number.invariant.0 in
+    let most : c.least-limit.result ≡ min range_limit c.args.count = c.least-limit.ensures in
     rw (← most, c.stopped-2.ensures.1)
-    (ran i c.stopped-2.result.done (omega (arith, c.stopped-2.ensures.0)) (λ h. omega (arith, i.rows, l.least.ensures)))
+    (ran i c.stopped-2.result.done (omega (arith, c.stopped-2.ensures.0)) (λ h. omega (arith, i.rows, c.least.ensures)))

@@ -7,8 +7,8 @@ use lib.ListN.{length, length-set}
 use lib.Seq.{paste, paste-zero, paste-suc}
 use Rattle.record_words.proofs.slots.copy.Goals as goal
 
-pub returns : goal.returns
-returns c =
-    let entry = c in
-    let all : c.loop-i.i ≡ length entry.args.from.now = omega (arith, c.loop-i.invariant.2, c.loop-i-test.false) in
-    rw all at c.loop-i.invariant.0
+pub loop-i-preserved : goal.loop-i-preserved
+loop-i-preserved c =
+    let below = c.loop-i-test.true in
+    let next : c.loop-i.i + 1 ≡ suc c.loop-i.i = omega arith in
+    rw (c.loop-i.invariant, next) (paste-suc c.args.to.now c.args.at c.args.from.now c.loop-i.i 0 (omega (arith, below, c.requires)) below)

@@ -11,5 +11,4 @@ use Rattle.record_words.proofs.slots.same.Goals as goal
 
 pub returns : goal.returns
 returns c =
-    let start = c in
-    sym (c.loop-i.invariant ∙ words_end start.args.t1 start.args.t2 c.loop-i.i (omega (arith, start.well-formed, c.loop-i-test.false)) (omega (arith, start.well-formed, c.loop-i-test.false)))
+    sym (c.loop-i.invariant ∙ words_end c.args.t1 c.args.t2 c.loop-i.i (omega (arith, c.well-formed, c.loop-i-test.false)) (omega (arith, c.well-formed, c.loop-i-test.false)))
