@@ -8,8 +8,7 @@ use host_frames::{decide_access, decide_cleared};
 use record_words::{ALL_RECORDS_WORDS, guest_in, put_answer};
 
 // A frame of the host is given to a granule of the guest in a slot.
-#[unsafe(no_mangle)]
-pub extern "C" fn clundip_donate_abi2(
+pub fn clundip_donate_abi2(
     records: &[u64; ALL_RECORDS_WORDS],
     frames: &mut [u32],
     map: &mut [u32],
@@ -26,13 +25,7 @@ pub extern "C" fn clundip_donate_abi2(
 }
 
 // A waiting frame was cleared, and is the host's.
-#[unsafe(no_mangle)]
-pub extern "C" fn clundip_cleared_abi2(
-    frames: &mut [u32],
-    map: &[u32],
-    frame: u64,
-    answer: &mut [u64; 5],
-)
+pub fn clundip_cleared_abi2(frames: &mut [u32], map: &[u32], frame: u64, answer: &mut [u64; 5])
     ensures { (records : List ℕ) → lent records frames.new map.now answer.new
         ≡ lent_after (cleared_of frame) records frames.old map.now }
 {
@@ -40,13 +33,7 @@ pub extern "C" fn clundip_cleared_abi2(
 }
 
 // Whether the host may access a frame.
-#[unsafe(no_mangle)]
-pub extern "C" fn clundip_access_abi2(
-    frames: &[u32],
-    map: &[u32],
-    frame: u64,
-    answer: &mut [u64; 5],
-)
+pub fn clundip_access_abi2(frames: &[u32], map: &[u32], frame: u64, answer: &mut [u64; 5])
     ensures { (records : List ℕ) → lent records frames.now map.now answer.new
         ≡ lent_after (host_access_of frame) records frames.now map.now }
 {

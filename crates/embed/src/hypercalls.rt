@@ -10,8 +10,7 @@ use guest_hypercalls::decide_hypercall;
 use record_words::{ALL_RECORDS_WORDS, guest_in, put_answer, put_change};
 
 // A hypercall of the guest in a slot, with R0 to R3.
-#[unsafe(no_mangle)]
-pub extern "C" fn clundip_hypercall_abi2(
+pub fn clundip_hypercall_abi2(
     records: &mut [u64; ALL_RECORDS_WORDS],
     frames: &mut [u32],
     map: &mut [u32],
@@ -38,8 +37,7 @@ pub extern "C" fn clundip_hypercall_abi2(
 }
 
 // An access of the guest in a slot that found no page.
-#[unsafe(no_mangle)]
-pub extern "C" fn clundip_abort_abi2(
+pub fn clundip_abort_abi2(
     records: &[u64; ALL_RECORDS_WORDS],
     frames: &[u32],
     map: &[u32],

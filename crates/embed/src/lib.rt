@@ -9,3 +9,11 @@ mod frames;
 mod hypercalls;
 mod registers;
 mod slots;
+
+pub use frames::{clundip_access_abi2, clundip_cleared_abi2, clundip_donate_abi2};
+pub use hypercalls::{clundip_abort_abi2, clundip_hypercall_abi2};
+pub use registers::{clundip_register_read_abi2, clundip_register_write_abi2};
+pub use slots::{
+    clundip_create_abi2, clundip_create_legacy_abi2, clundip_remove_abi2, clundip_run_abi2,
+    clundip_show_abi2,
+};

@@ -6,8 +6,7 @@ use host_registers::{decide_register_read, decide_register_write};
 use record_words::{ALL_RECORDS_WORDS, guest_in, put_answer, put_change};
 
 // The host reads a firmware register of the guest in a slot.
-#[unsafe(no_mangle)]
-pub extern "C" fn clundip_register_read_abi2(
+pub fn clundip_register_read_abi2(
     records: &[u64; ALL_RECORDS_WORDS],
     slot: u64,
     register: u64,
@@ -21,8 +20,7 @@ pub extern "C" fn clundip_register_read_abi2(
 }
 
 // The host writes a firmware register of the guest in a slot.
-#[unsafe(no_mangle)]
-pub extern "C" fn clundip_register_write_abi2(
+pub fn clundip_register_write_abi2(
     records: &mut [u64; ALL_RECORDS_WORDS],
     slot: u64,
     register: u64,

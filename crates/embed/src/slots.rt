@@ -11,8 +11,7 @@ use record_words::{ALL_RECORDS_WORDS, guest_in, monitor_in, put_answer, put_chan
 use tables::row_bounds;
 
 // A guest with ranges is created in the lowest slot that is not live.
-#[unsafe(no_mangle)]
-pub extern "C" fn clundip_create_abi2(
+pub fn clundip_create_abi2(
     records: &mut [u64; ALL_RECORDS_WORDS],
     frames: &[u32],
     map: &[u32],
@@ -25,8 +24,7 @@ pub extern "C" fn clundip_create_abi2(
 }
 
 // The same for a guest that knows no ranges.
-#[unsafe(no_mangle)]
-pub extern "C" fn clundip_create_legacy_abi2(
+pub fn clundip_create_legacy_abi2(
     records: &mut [u64; ALL_RECORDS_WORDS],
     frames: &[u32],
     map: &[u32],
@@ -39,12 +37,7 @@ pub extern "C" fn clundip_create_legacy_abi2(
 }
 
 // The guest in a slot is run.
-#[unsafe(no_mangle)]
-pub extern "C" fn clundip_run_abi2(
-    records: &mut [u64; ALL_RECORDS_WORDS],
-    slot: u64,
-    answer: &mut [u64; 5],
-)
+pub fn clundip_run_abi2(records: &mut [u64; ALL_RECORDS_WORDS], slot: u64, answer: &mut [u64; 5])
     ensures { (frames map : List ℕ) → lent records.new frames map answer.new
         ≡ lent_after (run_of slot) records.old frames map }
 {
@@ -55,8 +48,7 @@ pub extern "C" fn clundip_run_abi2(
 }
 
 // The guest in a slot is removed.
-#[unsafe(no_mangle)]
-pub extern "C" fn clundip_remove_abi2(
+pub fn clundip_remove_abi2(
     records: &mut [u64; ALL_RECORDS_WORDS],
     frames: &mut [u32],
     map: &mut [u32],
@@ -73,8 +65,7 @@ pub extern "C" fn clundip_remove_abi2(
 }
 
 // The row of the guest in a slot: where it begins in the map table, and how many words it has.
-#[unsafe(no_mangle)]
-pub extern "C" fn clundip_show_abi2(
+pub fn clundip_show_abi2(
     records: &[u64; ALL_RECORDS_WORDS],
     map: &[u32],
     slot: u64,

@@ -1,6 +1,7 @@
 -- By whether there is such a slot: its record is that of the part that its words are.
 use mathlib.Core.Path.{◌≡◌, sym, ap, ◌∙◌}
 use Prim.Native.Nat.{◌*◌}
+use native.Mathlib.Omega.{arith}
 use lib.ListN.{length}
 use Rattle.records.specs.Monitor.{guest_length, guest_in}
 use Rattle.record_words.specs.Words.{guest_at}

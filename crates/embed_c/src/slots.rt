@@ -1,0 +1,79 @@
+ghost use Rattle.std.specs.Prelude.{◌≡◌, true, false, List, ℕ};
+ghost use Rattle.answers.specs.Answer.{numbers_of};
+ghost use Rattle.record_words.specs.Words.{monitor_in, answer_words};
+ghost use Rattle.host_guests.specs.Calls.{create_of, run_of, show_of};
+ghost use Rattle.host_removal.specs.Calls.{remove_of};
+ghost use Rattle.embed.specs.Lent.{lent, lent_after, part_words};
+
+use record_words::ALL_RECORDS_WORDS;
+
+// A guest with ranges is created in the lowest slot that is not live.
+#[unsafe(no_mangle)]
+pub extern "C" fn clundip_create_abi2(
+    records: &mut [u64; ALL_RECORDS_WORDS],
+    frames: &[u32],
+    map: &[u32],
+    answer: &mut [u64; 5],
+)
+    ensures { lent records.new frames.now map.now answer.new
+        ≡ lent_after (create_of false) records.old frames.now map.now }
+{
+    embed::clundip_create_abi2(records, frames, map, answer);
+}
+
+// The same for a guest that knows no ranges.
+#[unsafe(no_mangle)]
+pub extern "C" fn clundip_create_legacy_abi2(
+    records: &mut [u64; ALL_RECORDS_WORDS],
+    frames: &[u32],
+    map: &[u32],
+    answer: &mut [u64; 5],
+)
+    ensures { lent records.new frames.now map.now answer.new
+        ≡ lent_after (create_of true) records.old frames.now map.now }
+{
+    embed::clundip_create_legacy_abi2(records, frames, map, answer);
+}
+
+// The guest in a slot is run.
+#[unsafe(no_mangle)]
+pub extern "C" fn clundip_run_abi2(
+    records: &mut [u64; ALL_RECORDS_WORDS],
+    slot: u64,
+    answer: &mut [u64; 5],
+)
+    ensures { (frames map : List ℕ) → lent records.new frames map answer.new
+        ≡ lent_after (run_of slot) records.old frames map }
+{
+    embed::clundip_run_abi2(records, slot, answer);
+}
+
+// The guest in a slot is removed.
+#[unsafe(no_mangle)]
+pub extern "C" fn clundip_remove_abi2(
+    records: &mut [u64; ALL_RECORDS_WORDS],
+    frames: &mut [u32],
+    map: &mut [u32],
+    slot: u64,
+    answer: &mut [u64; 5],
+)
+    ensures { lent records.new frames.new map.new answer.new
+        ≡ lent_after (remove_of slot) records.old frames.old map.old }
+{
+    embed::clundip_remove_abi2(records, frames, map, slot, answer);
+}
+
+// The row of the guest in a slot: where it begins in the map table, and how many words it has.
+#[unsafe(no_mangle)]
+pub extern "C" fn clundip_show_abi2(
+    records: &[u64; ALL_RECORDS_WORDS],
+    map: &[u32],
+    slot: u64,
+    part: &mut [u64; 2],
+    answer: &mut [u64; 5],
+)
+    ensures answer_after { answer.new ≡ answer_words (numbers_of (show_of slot (monitor_in records.now) map.now).answer) }
+    ensures part_after { part.new ≡ part_words slot (monitor_in records.now) map.now }
+{
+    embed::clundip_show_abi2(records, map, slot, part, answer);
+}
