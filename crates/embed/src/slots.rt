@@ -72,8 +72,8 @@ pub fn clundip_show_abi2(
     part: &mut [u64; 2],
     answer: &mut [u64; 5],
 )
-    ensures answer_after { answer.new ≡ answer_words (numbers_of (show_of slot (monitor_in records.now) map.now).answer) }
-    ensures part_after { part.new ≡ part_words slot (monitor_in records.now) map.now }
+    ensures answered { answer.new ≡ answer_words (numbers_of (show_of slot (monitor_in records.now) map.now).answer) }
+    ensures part_told { part.new ≡ part_words slot (monitor_in records.now) map.now }
 {
     let guest = guest_in(records, slot);
     let words = show_row(guest, map, slot).len();

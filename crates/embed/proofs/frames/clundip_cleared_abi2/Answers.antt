@@ -1,0 +1,13 @@
+-- What is decided with any record, which is no change of one.
+use Rattle.host_frames.specs.Calls.{cleared_command, cleared_of}
+use Rattle.embed.proofs.LentLaws.{lent_kept}
+use mathlib.Core.Path.{refl}
+use Rattle.records.specs.Monitor.{guest_of}
+use Rattle.record_words.specs.Words.{monitor_in}
+use borrow.Author.Rules.{rules}
+use Rattle.embed.proofs.frames.clundip_cleared_abi2.Goals as goal
+
+pub returns : goal.returns
+unfolding cleared_of
+returns c =
+    λ records. lent_kept (cleared_command c.args.frame) records c.args.frames.now c.args.map.now 8 refl (guest_of (monitor_in records) 8) refl _ _ _ (c.decide_cleared.ensures 8 (guest_of (monitor_in records) 8)) _ c.put_answer.ensures refl
