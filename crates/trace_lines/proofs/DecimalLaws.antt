@@ -54,6 +54,7 @@ digits_few n k h f = digits_few_by n k h f.2 (leb k 20) refl
 -- the digits of a number that has suc j of them, by any fuel that is no less
 same_digits : (j f n : ℕ) → n < 10 ^ suc j → (0 < j → 10 ^ j ≤ n) → j < f → last_digits 10 (suc j) n ≡ numeral f n
 unfolding numeral
+same_digits j zero n h l p = absurd (omega arith)
 same_digits zero (suc f) n h l p =
     let small : n < 10 = omega arith in
     rw (mod-eq_of_lt small, lt-ltb n 10 small)
