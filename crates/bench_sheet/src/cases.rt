@@ -5,26 +5,33 @@ use calls::Call;
 use commands::Reply;
 use functions::Registers;
 use records::Monitor;
+use std::io;
 
 // W = 128 and F = 256, granules 0 to 64 private: 65 granules shared, then the one that is left.
-pub(crate) fn share_of_65() {
+pub(crate) fn share_of_65(rt: &impl Print) -> io::Result<()> {
     let mut frames = [0u32; 256];
     let mut map = [0u32; 1024];
     let monitor = guest(&mut frames, &mut map, 65);
     let first = share(monitor, &mut frames, &mut map, 0, 65);
     let found = first.answer;
-    report(b"share 0x0 for 65", found.numbers(), returned(0, 64, 0, 0));
+    report(
+        rt,
+        "share 0x0 for 65",
+        found.numbers(),
+        returned(0, 64, 0, 0),
+    )?;
     let second = share(first.monitor, &mut frames, &mut map, 0x40000, 1);
     let found = second.answer;
     report(
-        b"then share 0x40000 for 1",
+        rt,
+        "then share 0x40000 for 1",
         found.numbers(),
         returned(0, 1, 0, 0),
-    );
+    )
 }
 
 // W = 64 and F = 256: the UID that a guest is told, against the published text.
-pub(crate) fn published_uid() {
+pub(crate) fn published_uid(rt: &impl Print) -> io::Result<()> {
     let mut frames = [0u32; 256];
     let mut map = [0u32; 512];
     let monitor = guest(&mut frames, &mut map, 0);
@@ -32,10 +39,11 @@ pub(crate) fn published_uid() {
     let found = reply.answer;
     let w = words(b"28b46fb6-2ec5-11e9-a9ca-4b564d003a74");
     report(
-        b"UID 28b46fb6-2ec5-11e9-a9ca-4b564d003a74",
+        rt,
+        "UID 28b46fb6-2ec5-11e9-a9ca-4b564d003a74",
         found.numbers(),
         returned(w[0], w[1], w[2], w[3]),
-    );
+    )
 }
 
 // The records after a guest with ranges is created in slot 0, given this many private granules from 0 on, frame g at granule g, and run.

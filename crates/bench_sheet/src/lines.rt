@@ -1,28 +1,24 @@
 ghost use Rattle.std.specs.Prelude.{◌≡◌, true};
 
 use answers::Numbers;
-use libc::STDOUT_FILENO;
+use std::io;
 
 // Writes the line of a case: whether the numbers found are the expected ones, what was done, and the numbers found.
-pub(crate) fn report(what: &[u8], found: Numbers, expected: Numbers) {
-    if same(found, expected) {
-        io::write_all(STDOUT_FILENO, b"ok ");
-    } else {
-        io::write_all(STDOUT_FILENO, b"WRONG ");
-    }
-    io::write_all(STDOUT_FILENO, what);
-    io::write_all(STDOUT_FILENO, b":");
-    write_number(found.verdict);
-    write_number(found.v0);
-    write_number(found.v1);
-    write_number(found.v2);
-    write_number(found.v3);
-    io::write_all(STDOUT_FILENO, b"\n");
-}
-
-fn write_number(number: u64) {
-    io::write_all(STDOUT_FILENO, b" ");
-    io::print_decimal(STDOUT_FILENO, number);
+pub(crate) fn report(
+    rt: &impl Print,
+    what: &str,
+    found: Numbers,
+    expected: Numbers,
+) -> io::Result<()> {
+    let word = if same(found, expected) { "ok" } else { "WRONG" };
+    let Numbers {
+        verdict,
+        v0,
+        v1,
+        v2,
+        v3,
+    } = found;
+    println!(rt; "{word} {what}: {verdict} {v0} {v1} {v2} {v3}")
 }
 
 fn same(a: Numbers, b: Numbers) -> bool

@@ -1,7 +1,6 @@
-// Replays a trace from standard input to standard output. It may read more pieces than any log has. It rests on replay_stream for all of it,
-// and on libc for the two descriptors.
+// Replays a trace from standard input to standard output. It may read more pieces than any log has. It rests on replay_stream for all of it.
 #![tactic(auto)]
 
-fn main() {
-    replay_stream::replay(libc::STDIN_FILENO, libc::STDOUT_FILENO, u64::MAX);
+fn main(rt: HostRuntime) {
+    replay_stream::replay(&mut rt.stdin(), &mut rt.stdout(), u64::MAX, &rt);
 }

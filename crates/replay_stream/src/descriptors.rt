@@ -1,6 +1,6 @@
 ghost use Rattle.std.specs.Prelude.{◌≡◌, ◌≤◌, length, take};
 
-use libc::STDERR_FILENO;
+use std::io::{Eprint, Read, Write};
 use trace::PIECE;
 use trace_lines::ROOM;
 
@@ -15,7 +15,7 @@ pub(crate) enum Piece {
 }
 
 // Reads behind the bytes that are held, which stay.
-pub(crate) fn read_behind(from: i32, input: &mut [u8; PIECE], held: usize) -> Piece
+pub(crate) fn read_behind<R: Read>(from: &mut R, input: &mut [u8; PIECE], held: usize) -> Piece
     requires { held ≤ 6236 }
     ensures { take held input.new ≡ take held input.old }
 {
@@ -24,32 +24,35 @@ pub(crate) fn read_behind(from: i32, input: &mut [u8; PIECE], held: usize) -> Pi
 }
 
 // The same with the input as a slice, of which a part can be lent.
-fn read_piece(from: i32, input: &mut [u8], held: usize) -> Piece
+fn read_piece<R: Read>(from: &mut R, input: &mut [u8], held: usize) -> Piece
     requires { held ≤ length input.old }
     ensures { take held input.new ≡ take held input.old }
 {
-    let got = libc::read(from, &mut input[held..]);
-    if got < 0 {
-        return Piece::Failed;
+    match from.read(&mut input[held..]) {
+        Ok(0) => Piece::End,
+        Ok(count) => Piece::Filled(held + count),
+        Err(_) => Piece::Failed,
     }
-    if got == 0 {
-        return Piece::End;
-    }
-    Piece::Filled(held + io::count(got, &input[held..]))
 }
 
 // Writes the first bytes of the buffer, and answers whether all could be written. Where they could not, a message says so.
-pub(crate) fn write_out(to: i32, out: &[u8; ROOM], count: usize) -> bool {
+pub(crate) fn write_out<W: Write>(
+    to: &mut W,
+    out: &[u8; ROOM],
+    count: usize,
+    errors: &impl Eprint,
+) -> bool {
     let text: &[u8] = out;
     if count <= text.len() {
-        if io::write_all(to, &text[0..count]) {
+        if to.write_all(&text[0..count]).is_ok() {
             return true;
         }
     }
-    say(b"replay: the text can't be written\n");
+    say(errors, "replay: the text can't be written");
     false
 }
 
-pub(crate) fn say(message: &[u8]) {
-    io::write_all(STDERR_FILENO, message);
+// Writes a message. Where that can't be written either, nothing is left to be done.
+pub(crate) fn say(errors: &impl Eprint, message: &str) {
+    let _ = errors.eprintln(message);
 }

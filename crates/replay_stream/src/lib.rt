@@ -1,37 +1,48 @@
-// A replay from one file descriptor to another, for programs.
-// It rests on trace and trace_lines for everything that is decided, and on io and libc for reading and writing, of which no contract can
-// speak. It only reads, calls and writes, and holds one piece of the log at a time.
+// A replay from a reader to a writer, for programs.
+// It rests on trace and trace_lines for everything that is decided, and on std for reading and writing, of which no contract can speak. It
+// only reads, calls and writes, and holds one piece of the log at a time.
 #![tactic(auto)]
 
 mod descriptors;
 
 use descriptors::{Piece, read_behind, say, write_out};
+use std::io::{Eprint, Read, Write};
 use trace::{FRAMES, MAP_WORDS, PIECE, Session};
 use trace_lines::{Line, ROOM};
 
-// Replays the log on one descriptor to its end, and writes the text to another. It reads so many pieces at the most, the end of the log
+// Replays the log that a reader gives to its end, and writes the text to a writer. It reads so many pieces at the most, the end of the log
 // among them. Where a piece can't be read, the text can't be written, or the pieces run out, it stops with a message on standard error and
 // no last line.
-pub fn replay(from: i32, to: i32, pieces: u64) {
+pub fn replay<R: Read, W: Write>(from: &mut R, to: &mut W, pieces: u64, errors: &impl Eprint) {
     let mut frames = [0u32; FRAMES];
     let mut map = [0u32; MAP_WORDS];
     let mut out = [0u8; ROOM];
     let session = Session::begin(&mut frames, &mut map);
     let count = Line::First.put(&mut out, 0);
-    if write_out(to, &out, count) {
-        read_on(session, &mut frames, &mut map, &mut out, from, to, pieces);
+    if write_out(to, &out, count, errors) {
+        read_on(
+            session,
+            &mut frames,
+            &mut map,
+            &mut out,
+            from,
+            to,
+            pieces,
+            errors,
+        );
     }
 }
 
 // Answers piece by piece, and writes the text of each.
-fn read_on(
+fn read_on<R: Read, W: Write>(
     start: Session,
     frames: &mut [u32],
     map: &mut [u32],
     out: &mut [u8; ROOM],
-    from: i32,
-    to: i32,
+    from: &mut R,
+    to: &mut W,
     pieces: u64,
+    errors: &impl Eprint,
 ) {
     let mut input = [0u8; PIECE];
     let mut session = start;
@@ -40,16 +51,16 @@ fn read_on(
     while left > 0 {
         match read_behind(from, &mut input, held) {
             Piece::Failed => {
-                say(b"replay: the log can't be read\n");
+                say(errors, "replay: the log can't be read");
                 return;
             }
             Piece::End => {
-                finish(session, held, out, to);
+                finish(session, held, out, to, errors);
                 return;
             }
             Piece::Filled(filled) => {
                 let turn = session.turn(frames, map, &mut input, filled, out);
-                if !write_out(to, out, turn.put) {
+                if !write_out(to, out, turn.put, errors) {
                     return;
                 }
                 session = turn.session;
@@ -58,11 +69,17 @@ fn read_on(
         }
         left -= 1;
     }
-    say(b"replay: the log has more pieces than can be read\n");
+    say(errors, "replay: the log has more pieces than can be read");
 }
 
 // Writes the last lines.
-fn finish(session: Session, held: usize, out: &mut [u8; ROOM], to: i32) {
+fn finish<W: Write>(
+    session: Session,
+    held: usize,
+    out: &mut [u8; ROOM],
+    to: &mut W,
+    errors: &impl Eprint,
+) {
     let count = session.close(held, out);
-    write_out(to, out, count);
+    write_out(to, out, count, errors);
 }
