@@ -1,13 +1,32 @@
 ghost use Rattle.std.specs.Prelude.{◌≡◌, ◌≤◌, length, take};
 
-use std::io::{Eprint, Read, Write};
+use std::fmt;
+use std::fmt::{Display, Formatter};
+use std::io::{Read, Write};
 use trace::PIECE;
 use trace_lines::ROOM;
+
+// Why a replay stops with no last line.
+#[derive(Clone, Copy)]
+pub(crate) enum Stop {
+    Unread,
+    Unwritten,
+    OutOfPieces,
+}
+
+impl Display for Stop {
+    fn fmt<W: fmt::Write>(&self, f: &mut Formatter<W>) -> fmt::Result {
+        f.write_str(match *self {
+            Stop::Unread => "the log can't be read",
+            Stop::Unwritten => "the text can't be written",
+            Stop::OutOfPieces => "the log has more pieces than can be read",
+        })
+    }
+}
 
 // What a read came to.
 #[derive(Clone, Copy)]
 pub(crate) enum Piece {
-    Failed,
     // The end of the log.
     End,
     // So many bytes are in the input now, with those held.
@@ -15,7 +34,11 @@ pub(crate) enum Piece {
 }
 
 // Reads behind the bytes that are held, which stay.
-pub(crate) fn read_behind<R: Read>(from: &mut R, input: &mut [u8; PIECE], held: usize) -> Piece
+pub(crate) fn read_behind<R: Read>(
+    from: &mut R,
+    input: &mut [u8; PIECE],
+    held: usize,
+) -> Result<Piece, Stop>
     requires { held ≤ 6236 }
     ensures { take held input.new ≡ take held input.old }
 {
@@ -24,35 +47,24 @@ pub(crate) fn read_behind<R: Read>(from: &mut R, input: &mut [u8; PIECE], held: 
 }
 
 // The same with the input as a slice, of which a part can be lent.
-fn read_piece<R: Read>(from: &mut R, input: &mut [u8], held: usize) -> Piece
+fn read_piece<R: Read>(from: &mut R, input: &mut [u8], held: usize) -> Result<Piece, Stop>
     requires { held ≤ length input.old }
     ensures { take held input.new ≡ take held input.old }
 {
     match from.read(&mut input[held..]) {
-        Ok(0) => Piece::End,
-        Ok(count) => Piece::Filled(held + count),
-        Err(_) => Piece::Failed,
+        Ok(0) => Ok(Piece::End),
+        Ok(count) => Ok(Piece::Filled(held + count)),
+        Err(_) => Err(Stop::Unread),
     }
 }
 
-// Writes the first bytes of the buffer, and answers whether all could be written. Where they could not, a message says so.
-pub(crate) fn write_out<W: Write>(
-    to: &mut W,
-    out: &[u8; ROOM],
-    count: usize,
-    errors: &impl Eprint,
-) -> bool {
+// Writes the first bytes of the buffer.
+pub(crate) fn write_out<W: Write>(to: &mut W, out: &[u8; ROOM], count: usize) -> Result<(), Stop> {
     let text: &[u8] = out;
     if count <= text.len() {
         if to.write_all(&text[0..count]).is_ok() {
-            return true;
+            return Ok(());
         }
     }
-    say(errors, "replay: the text can't be written");
-    false
-}
-
-// Writes a message. Where that can't be written either, nothing is left to be done.
-pub(crate) fn say(errors: &impl Eprint, message: &str) {
-    let _ = errors.eprintln(message);
+    Err(Stop::Unwritten)
 }

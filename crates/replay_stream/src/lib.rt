@@ -1,36 +1,43 @@
 // A replay from a reader to a writer, for programs.
-// It rests on trace and trace_lines for everything that is decided, and on std for reading and writing, of which no contract can speak. It
-// only reads, calls and writes, and holds one piece of the log at a time.
+// It rests on trace and trace_lines for everything that is decided, and on std for reading and writing. It only reads, calls and writes, and
+// holds one piece of the log at a time.
 #![tactic(auto)]
 
 mod descriptors;
 
-use descriptors::{Piece, read_behind, say, write_out};
+use descriptors::{Piece, Stop, read_behind, write_out};
 use std::io::{Eprint, Read, Write};
 use trace::{FRAMES, MAP_WORDS, PIECE, Session};
 use trace_lines::{Line, ROOM};
 
 // Replays the log that a reader gives to its end, and writes the text to a writer. It reads so many pieces at the most, the end of the log
 // among them. Where a piece can't be read, the text can't be written, or the pieces run out, it stops with a message on standard error and
-// no last line.
-pub fn replay<R: Read, W: Write>(from: &mut R, to: &mut W, pieces: u64, errors: &impl Eprint) {
+// no last line. It answers whether the whole text is written.
+pub fn replay<R: Read, W: Write>(
+    from: &mut R,
+    to: &mut W,
+    pieces: u64,
+    errors: &impl Eprint,
+) -> bool {
+    match replay_whole(from, to, pieces) {
+        Ok(()) => true,
+        Err(stop) => {
+            // Where the message can't be written either, nothing is left to be done.
+            let _ = eprintln!(errors; "replay: {stop}");
+            false
+        }
+    }
+}
+
+// The same with no message.
+fn replay_whole<R: Read, W: Write>(from: &mut R, to: &mut W, pieces: u64) -> Result<(), Stop> {
     let mut frames = [0u32; FRAMES];
     let mut map = [0u32; MAP_WORDS];
     let mut out = [0u8; ROOM];
     let session = Session::begin(&mut frames, &mut map);
     let count = Line::First.put(&mut out, 0);
-    if write_out(to, &out, count, errors) {
-        read_on(
-            session,
-            &mut frames,
-            &mut map,
-            &mut out,
-            from,
-            to,
-            pieces,
-            errors,
-        );
-    }
+    write_out(to, &out, count)?;
+    read_on(session, &mut frames, &mut map, &mut out, from, to, pieces)
 }
 
 // Answers piece by piece, and writes the text of each.
@@ -42,34 +49,22 @@ fn read_on<R: Read, W: Write>(
     from: &mut R,
     to: &mut W,
     pieces: u64,
-    errors: &impl Eprint,
-) {
+) -> Result<(), Stop> {
     let mut input = [0u8; PIECE];
     let mut session = start;
     let mut held: usize = 0;
-    let mut left = pieces;
-    while left > 0 {
-        match read_behind(from, &mut input, held) {
-            Piece::Failed => {
-                say(errors, "replay: the log can't be read");
-                return;
-            }
-            Piece::End => {
-                finish(session, held, out, to, errors);
-                return;
-            }
+    for _ in 0..pieces {
+        match read_behind(from, &mut input, held)? {
+            Piece::End => return finish(session, held, out, to),
             Piece::Filled(filled) => {
                 let turn = session.turn(frames, map, &mut input, filled, out);
-                if !write_out(to, out, turn.put, errors) {
-                    return;
-                }
+                write_out(to, out, turn.put)?;
                 session = turn.session;
                 held = turn.held;
             }
         }
-        left -= 1;
     }
-    say(errors, "replay: the log has more pieces than can be read");
+    Err(Stop::OutOfPieces)
 }
 
 // Writes the last lines.
@@ -78,8 +73,7 @@ fn finish<W: Write>(
     held: usize,
     out: &mut [u8; ROOM],
     to: &mut W,
-    errors: &impl Eprint,
-) {
+) -> Result<(), Stop> {
     let count = session.close(held, out);
-    write_out(to, out, count, errors);
+    write_out(to, out, count)
 }
