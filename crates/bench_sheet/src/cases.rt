@@ -57,15 +57,13 @@ fn guest(frames: &mut [u32], map: &mut [u32], granules: u64) -> Monitor {
 
 fn fill(monitor: Monitor, frames: &mut [u32], map: &mut [u32], granules: u64) -> Monitor {
     let mut filled = monitor;
-    let mut g: u64 = 0;
-    while g < granules {
+    for g in 0..granules {
         let donate = Call::Donate {
             slot: 0,
             frame: g,
             granule: g,
         };
         filled = donate.perform(filled, frames, map).monitor;
-        g += 1;
     }
     filled
 }

@@ -4,15 +4,9 @@ ghost use Rattle.std.specs.Prelude.{◌≤◌};
 // that are no digits are passed over.
 pub(crate) fn words(text: &[u8]) -> [u64; 4] {
     let mut words = [0u64; 4];
-    let mut count: usize = 0;
-    let mut i: usize = 0;
-    while i < text.len() {
-        let value = digit(text[i]);
-        if value < 16 {
-            put_digit(&mut words, count, value);
-            count += 1;
-        }
-        i += 1;
+    let digits = text.iter().map(|c| digit(*c)).filter(|value| *value < 16);
+    for (number, value) in digits.enumerate() {
+        put_digit(&mut words, number, value);
     }
     words
 }
