@@ -15,7 +15,7 @@ use Rattle.trace_lines.specs.Line.{line_text}
 use Rattle.trace_lines.specs.Puts.{Puts}
 use Rattle.trace_lines.specs.declared.lines.Line.TheVariants as line
 use Rattle.trace.specs.Replay.{Replay, replay, next_count, advance_of, outcome, outcome_of}
-use Rattle.trace.specs.Contracts.{Answers}
+use Rattle.trace.specs.Ensured.{Answers}
 use Rattle.trace.specs.declared.session.AnsweredRecord.{AnsweredRecord}
 use Rattle.trace.proofs.ReplayLaws.{advance_decoded, one_record}
 use Rattle.trace.proofs.ContinueLaws.{Advances}

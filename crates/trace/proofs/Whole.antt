@@ -24,7 +24,7 @@ use Rattle.trace_records.specs.Record.{decode_of}
 use Rattle.trace_lines.specs.Line.{numeral, decimal, line_text}
 use Rattle.trace_lines.specs.declared.lines.Line.TheVariants.{First}
 use Rattle.trace.specs.Replay.{Replay, advance_of, outcome_of, fresh_replay, replay_text, pieces_text}
-use Rattle.trace.specs.Contracts.{Turns}
+use Rattle.trace.specs.Ensured.{Turns}
 use Rattle.trace.specs.declared.session.Turn.{Turn}
 use Rattle.trace.specs.Cases.{cases}
 use Rattle.trace.proofs.ReplayLaws.{no_bytes}

@@ -1,3 +1,3 @@
 pub mod Replay
-pub mod Contracts
+pub mod Ensured
 pub mod Cases

@@ -4,7 +4,7 @@ ghost use Rattle.records.specs.Change.{alters};
 ghost use Rattle.commands.specs.Command.{view, result_of};
 ghost use Rattle.calls.specs.Step.{command_of};
 ghost use Rattle.trace.specs.Replay.{fresh_replay, closing};
-ghost use Rattle.trace.specs.Contracts.{kept, Answers, Replays, Turns};
+ghost use Rattle.trace.specs.Ensured.{kept, Answers, Replays, Turns};
 
 use crate::tail::keep;
 use calls::Call;

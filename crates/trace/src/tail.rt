@@ -3,8 +3,8 @@ ghost use Rattle.std.specs.Prelude.{◌≡◌, length, take, drop};
 // Moves the bytes from one place of a buffer up to another to its front, and answers how many there are. Where the second place is beyond the
 // buffer, its end counts; where it is before the first, there are none.
 pub(crate) fn keep(buffer: &mut [u8], from: usize, to: usize) -> usize
-    ensures value { result ≡ length (drop from (take to buffer.old)) }
-    ensures buffer_after { take result buffer.new ≡ drop from (take to buffer.old) }
+    ensures count { result ≡ length (drop from (take to buffer.old)) }
+    ensures moved { take result buffer.new ≡ drop from (take to buffer.old) }
 {
     let mut end = to;
     if buffer.len() < to {
