@@ -1,7 +1,7 @@
 // Every call for programs in C and Rust, on records, tables and answers that the caller lends as words.
 // It rests on the calls' crates for every decision, on tables, records and functions, and on record_words for records and answers as words.
-// It keeps nothing between calls.
-// The suffix of each export is the layout's version, CLUNDIP_ABI in include/clundip.h. It is raised with every change of a layout, so that a
+// It keeps nothing between calls. The static library embed_c exports these functions under their names.
+// The suffix of each name is the layout's version, CLUNDIP_ABI in include/clundip.h. It is raised with every change of a layout, so that a
 // program compiled for another layout does not link.
 #![tactic(auto)]
 
