@@ -3,7 +3,7 @@
 -- Each call does at least one step or refuses, so a piece of m needs at most m calls, and fuel does not run out.
 use mathlib.Core.Path.{◌≡◌, refl, sym, ap, ◌∙◌}
 use mathlib.Core.List.{List, [], ◌∷◌}
-use Prim.Native.Nat.{ℕ, zero, suc, ◌+◌, ◌-◌, ◌≤◌, min}
+use Prim.Native.Nat.{ℕ, zero, suc, ◌-◌, ◌≤◌, min}
 use native.Mathlib.Nat.{le_refl, sub-zero}
 use native.Mathlib.Omega.{arith}
 use Rattle.runs.specs.Run.{Step, took, refuses, complete, refused, out_of_fuel, End, ended, sum, one_more, after, onward, run, go_on, carry_on, and_then, pieces, stop_of}

@@ -1,7 +1,6 @@
 -- By the frame in the map word, and by whether that frame's word names the granule back.
 use mathlib.Core.Bool.{true, false}
 use Rattle.pairs.proofs.ComparisonLaws.{compared_beyond, compared_named}
-use borrow.Author.Rules.{rules}
 use Rattle.pairs.proofs.pairs.compare_frame.Goals as goal
 
 pub returns-then-nameable-frame : goal.returns-then-nameable-frame

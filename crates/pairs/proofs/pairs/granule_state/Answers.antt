@@ -1,7 +1,6 @@
 -- Each case by the tests that led to it.
 use Rattle.pairs.proofs.PairLaws.{frame_beyond, frame_tested}
 use Rattle.pairs.specs.Pair.{granule_state}
-use borrow.Author.Rules.{rules}
 use Rattle.pairs.proofs.pairs.granule_state.Goals as goal
 
 pub returns-then-names : goal.returns-then-names

@@ -1,6 +1,5 @@
 -- Each case by the tests that led to it.
 use Rattle.pairs.proofs.PairLaws.{owner_beyond, owner_tested}
-use borrow.Author.Rules.{rules}
 use Rattle.pairs.proofs.pairs.owner_state.Goals as goal
 
 pub returns-then-names : goal.returns-then-names

@@ -1,7 +1,6 @@
 -- An index into the slot's row is a granule; past its end there is none.
 use mathlib.Core.Path.{◌∙◌}
 use Rattle.pairs.proofs.PairLaws.{granule_in_row, granule_off_row}
-use borrow.Author.Rules.{rules}
 use Rattle.pairs.proofs.pairs.pair_at.Goals as goal
 
 pub returns-then-number-words : goal.returns-then-number-words

@@ -2,7 +2,6 @@
 use mathlib.Core.Path.{◌∙◌}
 use Rattle.pairs.specs.Pair.{frame_state}
 use Rattle.pairs.proofs.PairLaws.{frame_reached, frame_none, owner_slot}
-use borrow.Author.Rules.{rules}
 use Rattle.pairs.proofs.pairs.pair_of.Goals as goal
 
 pub owner_state-requires : goal.owner_state-requires

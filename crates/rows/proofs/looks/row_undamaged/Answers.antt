@@ -1,17 +1,6 @@
 -- The row is undamaged exactly if the granules from here on are; each is looked at with its frame.
 use Rattle.rows.proofs.RowPasses.{undamaged_all, undamaged_not, undamaged_more}
-use Rattle.rows.specs.WholeRow.{undamaged_from, row_undamaged}
-use Rattle.pairs.specs.declared.pairs.GranuleState.{GranuleState}
-use Rattle.pairs.specs.declared.pairs.GranuleState.TheVariants as granule-state
-use denote.Enum.Declared.{tag_of}
-use types.Run.{OneOf}
-use mathlib.Core.List.{[], ◌∷◌}
-use mathlib.Core.Logic.{⊎_elim}
-use mathlib.Core.Path.{◌≡◌, refl}
-use lib.ListN.{length, drop}
-use Prim.Native.Nat.{ℕ, ◌-◌, ◌≤◌}
 use native.Mathlib.Omega.{arith}
-use borrow.Author.Rules.{rules}
 use Rattle.rows.proofs.looks.row_undamaged.Goals as goal
 
 pub returns-in-Damaged : goal.returns-in-Damaged

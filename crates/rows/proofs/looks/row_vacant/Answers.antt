@@ -1,11 +1,6 @@
 -- The row is vacant exactly if the words from here on are; each word is looked at.
 use Rattle.rows.proofs.RowPasses.{vacant_all, vacant_not, vacant_more}
-use Rattle.rows.specs.WholeRow.{row_vacant}
-use mathlib.Core.Path.{◌≡◌, refl}
-use lib.ListN.{length, drop}
-use Prim.Native.Nat.{◌-◌, ◌≤◌}
 use native.Mathlib.Omega.{arith}
-use borrow.Author.Rules.{rules}
 use Rattle.rows.proofs.looks.row_vacant.Goals as goal
 
 pub returns-then-row-number-ne-VACANT : goal.returns-then-row-number-ne-VACANT

@@ -1,8 +1,6 @@
 -- Each case by what the map word says; a frame beyond the table changes no word.
 use Rattle.words.specs.FrameWord.{frame_bits}
-use mathlib.Core.Path.{refl, sym}
-use lib.Seq.{set_out}
-use borrow.Author.Rules.{rules}
+use mathlib.Core.Path.{refl}
 use Rattle.rows.proofs.writes.free_frame.Goals as goal
 
 pub returns-then-frame-frames : goal.returns-then-frame-frames

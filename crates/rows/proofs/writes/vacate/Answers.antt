@@ -1,8 +1,5 @@
 -- The words so far are vacant and their frames wait; each turn adds one word.
-use Rattle.rows.proofs.RowPasses.{Vacated, begun, more, all, answer_one}
-use lib.ListN.{length}
-use Prim.Native.Nat.{◌-◌}
-use borrow.Author.Rules.{rules}
+use Rattle.rows.proofs.RowPasses.{more, all}
 use Rattle.rows.proofs.writes.vacate.Goals as goal
 
 pub loop-number-preserved : goal.loop-number-preserved

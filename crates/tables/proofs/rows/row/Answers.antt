@@ -1,7 +1,6 @@
 -- The bounds are in order and within the table, for any slot.
 use native.Mathlib.Omega.{arith}
 use Rattle.tables.proofs.RowLaws.{in_order}
-use borrow.Author.Rules.{rules}
 use Rattle.tables.proofs.rows.row.Goals as goal
 
 pub offset_bounds-map-start : goal.offset_bounds-map-start

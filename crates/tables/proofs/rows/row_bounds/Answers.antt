@@ -1,8 +1,6 @@
 -- A row lies within the table, so its ends fit.
-use native.Mathlib.Omega.{arith}
 use mathlib.Core.Path.{sym}
-use Rattle.tables.proofs.RowLaws.{row_inside, bounds_slot, bounds_none}
-use borrow.Author.Rules.{rules}
+use Rattle.tables.proofs.RowLaws.{bounds_slot, bounds_none}
 use Rattle.tables.proofs.rows.row_bounds.Goals as goal
 
 pub returns-then-slot-lt8 : goal.returns-then-slot-lt8

@@ -1,10 +1,5 @@
 -- The slots before this one are live, so the lowest free slot is the lowest from here on.
-use mathlib.Core.Path.{◌≡◌, refl}
-use Prim.Native.Nat.{◌-◌}
-use native.Mathlib.Omega.{arith}
-use borrow.Author.Rules.{rules}
 use Rattle.records.proofs.SlotLaws.{all_live_lem, free_here, free_later}
-use Rattle.records.specs.Monitor.{free_from, free_slot}
 use Rattle.records.proofs.monitor.Monitor.free_slot.Goals as goal
 
 pub loop-slot-preserved : goal.loop-slot-preserved

@@ -1,7 +1,6 @@
 -- By the test on the slot.
 use borrow.Author.Tests.{lt-ltb, le-ltb}
 use Rattle.records.specs.Monitor.{guest_of}
-use borrow.Author.Rules.{rules}
 use Rattle.records.proofs.monitor.Monitor.guest.Goals as goal
 
 pub returns-then-slot-lt8 : goal.returns-then-slot-lt8

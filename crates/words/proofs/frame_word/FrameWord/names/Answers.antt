@@ -2,7 +2,6 @@
 use native.Mathlib.Omega.{arith}
 use mathlib.Core.Path.{sym}
 use Rattle.words.proofs.FrameWordLaws.{names_granule_built, names_no_granule}
-use borrow.Author.Rules.{rules}
 use Rattle.words.proofs.frame_word.FrameWord.names.Goals as goal
 
 pub returns-then-slot-ge8 : goal.returns-then-slot-ge8

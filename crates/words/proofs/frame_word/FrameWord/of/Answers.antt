@@ -6,7 +6,6 @@ use lib.Bits.{bit_and, and_mask}
 use borrow.Author.Tests.{eq-eqb}
 use Rattle.words.specs.FrameWord.{frame_word_of}
 use Rattle.words.proofs.FrameWordLaws.{owner_damaged, owner_named}
-use borrow.Author.Rules.{rules}
 use Rattle.words.proofs.frame_word.FrameWord.of.Goals as goal
 
 pub returns-then-word-eq-HOST : goal.returns-then-word-eq-HOST

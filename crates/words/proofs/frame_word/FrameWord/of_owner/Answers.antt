@@ -4,7 +4,6 @@ use native.Mathlib.Omega.{arith}
 use Rattle.words.specs.FrameWord.{frame_bits, sharing_byte}
 use Rattle.words.proofs.Packing.{packed}
 use Rattle.words.proofs.FrameWordLaws.{sharing_bit, sharing_cast}
-use borrow.Author.Rules.{rules}
 use Rattle.words.proofs.frame_word.FrameWord.of_owner.Goals as goal
 
 pub returns : goal.returns

@@ -1,7 +1,6 @@
 -- A comparison with the built word.
 use mathlib.Core.Path.{sym}
 use Rattle.words.proofs.MapWordLaws.{bare_built}
-use borrow.Author.Rules.{rules}
 use Rattle.words.proofs.map_word.MapWord.is_bare.Goals as goal
 
 pub returns : goal.returns

@@ -2,7 +2,6 @@
 use native.Mathlib.Omega.{arith}
 use mathlib.Core.Path.{sym}
 use Rattle.words.proofs.MapWordLaws.{names_frame_built, names_no_frame}
-use borrow.Author.Rules.{rules}
 use Rattle.words.proofs.map_word.MapWord.names.Goals as goal
 
 pub returns-then-frame-lt-FRAME_LIMIT : goal.returns-then-frame-lt-FRAME_LIMIT

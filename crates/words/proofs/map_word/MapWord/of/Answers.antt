@@ -7,7 +7,6 @@ use lib.Bits.{and_mask}
 use borrow.Author.Tests.{eq-eqb}
 use Rattle.words.specs.MapWord.{map_word_of}
 use Rattle.words.proofs.MapWordLaws.{frame_said, damaged_said}
-use borrow.Author.Rules.{rules}
 use Rattle.words.proofs.map_word.MapWord.of.Goals as goal
 
 pub returns-then-word-eq-VACANT : goal.returns-then-word-eq-VACANT

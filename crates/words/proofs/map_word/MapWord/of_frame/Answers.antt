@@ -1,7 +1,6 @@
 -- The kind above the frame is a sum.
 use native.Mathlib.Omega.{arith}
-use Rattle.words.proofs.MapWordLaws.{frame_bits_lem, kind_few}
-use borrow.Author.Rules.{rules}
+use Rattle.words.proofs.MapWordLaws.{frame_bits_lem}
 use Rattle.words.proofs.map_word.MapWord.of_frame.Goals as goal
 
 pub returns : goal.returns
