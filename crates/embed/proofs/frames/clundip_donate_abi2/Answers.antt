@@ -2,7 +2,6 @@
 use Rattle.host_donation.specs.Calls.{donate_command, donate_of}
 use Rattle.embed.proofs.LentLaws.{lent_kept}
 use mathlib.Core.Path.{refl}
-use borrow.Author.Rules.{rules}
 use Rattle.embed.proofs.frames.clundip_donate_abi2.Goals as goal
 
 pub returns : goal.returns

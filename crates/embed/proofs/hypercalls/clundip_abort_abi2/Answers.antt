@@ -2,7 +2,6 @@
 use Rattle.guest_aborts.specs.Calls.{abort_command, abort_of}
 use Rattle.embed.proofs.LentLaws.{lent_kept}
 use mathlib.Core.Path.{refl}
-use borrow.Author.Rules.{rules}
 use Rattle.embed.proofs.hypercalls.clundip_abort_abi2.Goals as goal
 
 pub returns : goal.returns

@@ -3,7 +3,6 @@ use Rattle.guest_hypercalls.specs.Calls.{hypercall_command, hypercall_of}
 use Rattle.embed.proofs.LentLaws.{lent_put, lent_unaltered}
 use mathlib.Core.Path.{refl, sym, ◌∙◌}
 use Rattle.functions.specs.Rules.{registers}
-use borrow.Author.Rules.{rules}
 use Rattle.embed.proofs.hypercalls.clundip_hypercall_abi2.Goals as goal
 
 pub returns-then-alters : goal.returns-then-alters

@@ -2,7 +2,6 @@
 use Rattle.host_registers.specs.Registers.{read_command, register_read_of}
 use Rattle.embed.proofs.LentLaws.{lent_kept}
 use mathlib.Core.Path.{refl}
-use borrow.Author.Rules.{rules}
 use Rattle.embed.proofs.registers.clundip_register_read_abi2.Goals as goal
 
 pub returns : goal.returns

@@ -2,7 +2,6 @@
 use Rattle.host_registers.specs.Registers.{write_command, register_write_of}
 use Rattle.embed.proofs.LentLaws.{lent_put}
 use mathlib.Core.Path.{refl}
-use borrow.Author.Rules.{rules}
 use Rattle.embed.proofs.registers.clundip_register_write_abi2.Goals as goal
 
 pub returns : goal.returns

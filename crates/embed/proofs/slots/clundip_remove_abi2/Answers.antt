@@ -2,7 +2,6 @@
 use Rattle.host_removal.specs.Calls.{remove_command, remove_of}
 use Rattle.embed.proofs.LentLaws.{lent_put}
 use mathlib.Core.Path.{refl}
-use borrow.Author.Rules.{rules}
 use Rattle.embed.proofs.slots.clundip_remove_abi2.Goals as goal
 
 pub returns : goal.returns

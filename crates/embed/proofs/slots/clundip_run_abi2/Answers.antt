@@ -2,7 +2,6 @@
 use Rattle.host_guests.specs.Calls.{run_command, run_of}
 use Rattle.embed.proofs.LentLaws.{lent_put}
 use mathlib.Core.Path.{refl}
-use borrow.Author.Rules.{rules}
 use Rattle.embed.proofs.slots.clundip_run_abi2.Goals as goal
 
 pub returns : goal.returns

@@ -4,7 +4,6 @@ use Rattle.embed.proofs.LentLaws.{lent_put}
 use mathlib.Core.Path.{refl}
 use Rattle.records.specs.Monitor.{guest_of}
 use Rattle.record_words.specs.Words.{monitor_in}
-use borrow.Author.Rules.{rules}
 use Rattle.embed.proofs.slots.create_kind.Goals as goal
 
 pub returns : goal.returns

@@ -9,7 +9,6 @@ use Rattle.granules.specs.Comparison.{is_shared}
 use Rattle.granules.proofs.ChangeLaws.{FramePair, frame_pair}
 use Rattle.granules.proofs.KindLaws.{frame_of}
 use Rattle.granules.proofs.StepLaws.{beyond_row, differs, bare_left, bare_done, frame_done}
-use borrow.Author.Rules.{rules}
 use Rattle.granules.proofs.step.change_granule.Goals as goal
 use Rattle.granules.proofs.step.change_granule.Goals.{In-Frame}
 

@@ -1,10 +1,7 @@
 -- By `compare_frame` where the kind has a frame, and by the map word where it has none.
 use mathlib.Core.Path.{sym, ◌∙◌}
 use mathlib.Core.Bool.{true, false}
-use Rattle.words.specs.MapWord.{map_word_of}
-use Rattle.pairs.specs.Pair.{granule_state}
-use Rattle.granules.proofs.KindLaws.{framed_compared, bare_compared}
-use borrow.Author.Rules.{rules}
+use Rattle.granules.proofs.KindLaws.{bare_compared}
 use Rattle.granules.proofs.step.compare.Goals as goal
 
 pub returns-then-is_bare : goal.returns-then-is_bare

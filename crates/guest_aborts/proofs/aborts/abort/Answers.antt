@@ -3,7 +3,6 @@ use Rattle.guest_aborts.specs.Calls.{abort_command, abort_of}
 use Rattle.commands.proofs.CommandLaws.{applying}
 use Rattle.commands.specs.State.{state}
 use mathlib.Core.Path.{refl}
-use borrow.Author.Rules.{rules}
 use Rattle.guest_aborts.proofs.aborts.abort.Goals as goal
 
 pub returns : goal.returns

@@ -1,7 +1,6 @@
 -- Beyond the row nothing backs the address; within it, by what the granule holds.
 use Rattle.guest_aborts.proofs.AbortLaws.{access_beyond, access_within}
 use mathlib.Core.Path.{◌∙◌}
-use borrow.Author.Rules.{rules}
 use Rattle.guest_aborts.proofs.aborts.guest_access.Goals as goal
 
 pub returns-then-words-number : goal.returns-then-words-number

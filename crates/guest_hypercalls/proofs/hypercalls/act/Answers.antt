@@ -6,7 +6,6 @@ use Rattle.ranges.specs.Range.{range_limit}
 use Rattle.commands.specs.Command.{view}
 use Rattle.words.proofs.RegisterLaws.{zero_extended}
 use Prim.Native.Nat.{◌<◌, ◌^◌, min}
-use native.Mathlib.Omega.{arith}
 use Rattle.call_table.specs.Table.{granules_of, is_told}
 use borrow.Author.Rules.{rules}
 use Rattle.guest_hypercalls.proofs.hypercalls.act.Goals as goal

@@ -3,7 +3,6 @@ use Rattle.guest_hypercalls.specs.Calls.{hypercall_command, hypercall_of}
 use Rattle.commands.proofs.CommandLaws.{applying}
 use Rattle.commands.specs.State.{state}
 use mathlib.Core.Path.{refl}
-use borrow.Author.Rules.{rules}
 use Rattle.guest_hypercalls.proofs.hypercalls.hypercall.Goals as goal
 
 pub returns : goal.returns

@@ -4,7 +4,6 @@ use Prim.Native.Nat.{min}
 use Rattle.granules.proofs.Lent.{lent}
 use Rattle.tables.proofs.RowLaws.{in_order}
 use native.Mathlib.Omega.{arith}
-use borrow.Author.Rules.{rules}
 use Rattle.guest_hypercalls.proofs.work.change_row.Goals as goal
 
 pub offset_bounds-map-start : goal.offset_bounds-map-start

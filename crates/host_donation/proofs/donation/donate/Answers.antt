@@ -3,7 +3,6 @@ use Rattle.host_donation.specs.Calls.{donate_command, donate_of}
 use Rattle.commands.proofs.CommandLaws.{applying}
 use Rattle.commands.specs.State.{state}
 use mathlib.Core.Path.{refl}
-use borrow.Author.Rules.{rules}
 use Rattle.host_donation.proofs.donation.donate.Goals as goal
 
 pub returns : goal.returns

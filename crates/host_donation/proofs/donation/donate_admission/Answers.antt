@@ -2,7 +2,6 @@
 use Rattle.commands.proofs.TestLaws.{tests_in_order}
 use Rattle.host_donation.specs.Calls.{donate_command}
 use Rattle.commands.specs.Command.{view, tests_of}
-use borrow.Author.Rules.{rules}
 use Rattle.host_donation.proofs.donation.donate_admission.Goals as goal
 
 pub returns : goal.returns

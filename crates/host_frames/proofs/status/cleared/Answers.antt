@@ -6,7 +6,6 @@ use Rattle.records.specs.Monitor.{guest_of}
 use mathlib.Core.Path.{refl}
 use Rattle.records.proofs.ChangeLaws.{beyond}
 use native.Mathlib.Omega.{arith}
-use borrow.Author.Rules.{rules}
 use Rattle.host_frames.proofs.status.cleared.Goals as goal
 
 pub returns : goal.returns

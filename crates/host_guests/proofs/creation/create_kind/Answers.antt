@@ -4,7 +4,6 @@ use Rattle.commands.proofs.CommandLaws.{applying}
 use Rattle.commands.specs.State.{state}
 use Rattle.records.specs.Monitor.{guest_of}
 use mathlib.Core.Path.{refl}
-use borrow.Author.Rules.{rules}
 use Rattle.host_guests.proofs.creation.create_kind.Goals as goal
 
 pub returns : goal.returns

@@ -3,7 +3,6 @@ use Rattle.host_guests.specs.Calls.{run_command, run_of}
 use Rattle.commands.proofs.CommandLaws.{applying}
 use Rattle.commands.specs.State.{state}
 use mathlib.Core.Path.{refl}
-use borrow.Author.Rules.{rules}
 use Rattle.host_guests.proofs.creation.run.Goals as goal
 
 pub returns : goal.returns

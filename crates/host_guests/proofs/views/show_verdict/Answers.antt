@@ -5,7 +5,6 @@ use Rattle.commands.proofs.CommandLaws.{applying}
 use Rattle.commands.specs.State.{Answered, state}
 use mathlib.Core.List.{[]}
 use mathlib.Core.Path.{refl, ap, ◌∙◌}
-use borrow.Author.Rules.{rules}
 use Rattle.host_guests.proofs.views.show_verdict.Goals as goal
 
 pub returns : goal.returns

@@ -6,7 +6,6 @@ use Rattle.records.specs.declared.change.Change.TheVariants.{Written}
 use Rattle.commands.specs.Command.{view, live_tests, host_success}
 use mathlib.Core.List.{[], ◌∷◌, ◌++◌}
 use mathlib.Core.Bool.{not}
-use borrow.Author.Rules.{rules}
 use Rattle.host_registers.proofs.access.decide_register_write.Goals as goal
 
 pub returns : goal.returns

@@ -3,7 +3,6 @@ use Rattle.host_registers.specs.Registers.{write_command, register_write_of}
 use Rattle.commands.proofs.CommandLaws.{applying}
 use Rattle.commands.specs.State.{state}
 use mathlib.Core.Path.{refl}
-use borrow.Author.Rules.{rules}
 use Rattle.host_registers.proofs.access.register_write.Goals as goal
 
 pub returns : goal.returns

@@ -3,7 +3,6 @@ use Rattle.host_removal.specs.Calls.{remove_command, remove_of}
 use Rattle.commands.proofs.CommandLaws.{applying}
 use Rattle.commands.specs.State.{state}
 use mathlib.Core.Path.{refl}
-use borrow.Author.Rules.{rules}
 use Rattle.host_removal.proofs.removal.remove.Goals as goal
 
 pub returns : goal.returns

@@ -2,7 +2,6 @@
 use native.Mathlib.Omega.{arith}
 use Rattle.tables.proofs.RowLaws.{in_order}
 use Rattle.host_removal.proofs.RemovalLaws.{row_vacated}
-use borrow.Author.Rules.{rules}
 use Rattle.host_removal.proofs.removal.vacate_slot.Goals as goal
 
 pub offset_bounds-map-start : goal.offset_bounds-map-start

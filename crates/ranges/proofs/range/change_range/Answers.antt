@@ -1,16 +1,9 @@
 -- The granules so far are done; each turn does the next or ends the range, and so do the limit and the row's end.
 use mathlib.Core.Path.{◌≡◌}
-use mathlib.Core.List.{[], ◌∷◌}
-use mathlib.Core.Logic.{⊎_elim}
-use Prim.Native.Nat.{ℕ, ◌-◌, ◌≤◌, min}
+use Prim.Native.Nat.{◌-◌, min}
 use native.Mathlib.Omega.{arith}
-use denote.Enum.Declared.{tag_of}
-use types.Run.{OneOf}
-use Rattle.granules.specs.declared.step.Outcome.TheVariants as outcome
-use Rattle.granules.specs.declared.step.Outcome.{Outcome}
 use Rattle.ranges.specs.Range.{range_limit}
 use Rattle.ranges.proofs.RangeLaws.{Going, begun, ran, more, refused_there}
-use borrow.Author.Rules.{rules}
 use Rattle.ranges.proofs.range.change_range.Goals as goal
 
 pub returns-then-width-start : goal.returns-then-width-start

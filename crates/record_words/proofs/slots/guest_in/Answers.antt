@@ -6,7 +6,6 @@ use lib.ListN.{length}
 use Rattle.records.specs.Monitor.{guest_length, guest_in}
 use Rattle.record_words.specs.Words.{guest_at}
 use Rattle.record_words.proofs.WordLaws.{guest_there, guest_nowhere, copied_whole}
-use borrow.Author.Rules.{rules}
 use Rattle.record_words.proofs.slots.guest_in.Goals as goal
 
 pub returns-then-slot-lt8 : goal.returns-then-slot-lt8

@@ -1,6 +1,5 @@
 -- Slot by slot.
 use Rattle.records.specs.Monitor.{guest_of}
-use borrow.Author.Rules.{rules}
 use Rattle.record_words.proofs.slots.monitor_in.Goals as goal
 
 pub returns : goal.returns

@@ -3,7 +3,6 @@ use mathlib.Core.Path.{◌≡◌, sym, ap, ◌∙◌}
 use lib.ListN.{length}
 use Rattle.records.specs.Monitor.{guest_length}
 use Rattle.record_words.proofs.WordLaws.{change_none, change_same, change_written, change_nowhere}
-use borrow.Author.Rules.{rules}
 use Rattle.record_words.proofs.slots.put_change.Goals as goal
 
 pub returns-then-same : goal.returns-then-same

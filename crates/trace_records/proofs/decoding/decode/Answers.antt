@@ -1,14 +1,11 @@
 -- Fewer than four bytes are those of a start or bad. Of four or more, the kind gives the length that the first two must hold.
 use mathlib.Core.Path.{◌≡◌, ◌∙◌, sym}
-use native.Mathlib.Omega.{arith}
 use Prim.Native.Nat.{◌+◌}
-use lib.ListN.{length, get_or}
+use lib.ListN.{length}
 use borrow.Author.Tests.{lt-ltb, le-ltb}
 use Rattle.trace_records.specs.Record.{kind_in, record_in, decode_of}
 use Rattle.trace_kinds.specs.declared.kinds.Found.TheVariants.{Known}
-use Rattle.trace_kinds.proofs.RecordKindLaws.{length_at_most}
 use Rattle.trace_records.proofs.DecodeLaws.{by_start, by_kind}
-use borrow.Author.Rules.{rules}
 use Rattle.trace_records.proofs.decoding.decode.Goals as goal
 use Rattle.trace_records.proofs.decoding.decode.Goals.{In-Known}
 

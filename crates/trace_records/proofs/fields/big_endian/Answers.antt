@@ -1,11 +1,7 @@
 -- The value is the number of the bytes passed, which fits as they are at most eight.
-use mathlib.Core.Path.{◌≡◌, refl}
-use Prim.Native.Nat.{◌+◌, ◌*◌, ◌-◌, ◌^◌, ◌<◌, ◌≤◌}
+use Prim.Native.Nat.{◌+◌, ◌*◌, ◌-◌, ◌^◌, ◌<◌}
 use native.Mathlib.Omega.{arith}
-use lib.ListN.{length, take}
 use lib.Seq.{take_all}
-use borrow.Author.Rules.{rules}
-use Rattle.trace_records.specs.Record.{big_endian}
 use Rattle.trace_records.proofs.FieldLaws.{big_endian_more, below_more_bytes, eight_bytes_fit}
 use Rattle.trace_records.proofs.fields.big_endian.Goals as goal
 use Rattle.trace_records.proofs.fields.big_endian.Goals.{After-wide}

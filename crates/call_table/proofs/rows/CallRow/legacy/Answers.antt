@@ -1,5 +1,4 @@
 -- Row by row.
-use borrow.Author.Rules.{rules}
 use Rattle.call_table.specs.Table.{legacy_row_of}
 use Rattle.call_table.proofs.rows.CallRow.legacy.Goals as goal
 

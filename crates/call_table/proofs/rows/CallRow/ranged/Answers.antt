@@ -1,6 +1,5 @@
 -- Row by row.
 use Rattle.call_table.specs.Table.{ranged_row_of}
-use borrow.Author.Rules.{rules}
 use Rattle.call_table.proofs.rows.CallRow.ranged.Goals as goal
 
 pub returns-in-Features : goal.returns-in-Features

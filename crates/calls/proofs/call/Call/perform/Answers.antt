@@ -2,7 +2,6 @@
 use Rattle.calls.specs.Step.{command_of, step}
 use Rattle.commands.proofs.CommandLaws.{applying}
 use Rattle.commands.specs.State.{state}
-use borrow.Author.Rules.{rules}
 use Rattle.calls.proofs.call.Call.perform.Goals as goal
 
 pub returns : goal.returns

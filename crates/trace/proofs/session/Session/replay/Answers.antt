@@ -1,6 +1,6 @@
 -- Each turn is one record of the definition; the text of each stands behind that of those before it, and has 21 bytes at the most for each byte
 -- taken, so there is room for another line while bytes are left.
-use Rattle.std.proofs.Common.{◌≡◌, ℕ, ◌+◌, ◌-◌, ◌*◌, ◌%◌, ◌<◌, ◌≤◌, true, false, List, length, get_or, take, drop, sym, refl, ◌∙◌, arith, length-drop, take_all, rules}
+use Rattle.std.proofs.Common.{◌≡◌, ℕ, ◌+◌, ◌-◌, ◌*◌, ◌%◌, ◌<◌, ◌≤◌, true, false, List, length, get_or, take, drop, sym, refl, ◌∙◌, arith, length-drop, take_all}
 use lib.Seq.{drop-length}
 use Rattle.records.specs.Monitor.{zero_guest}
 use Rattle.records.specs.Change.{with_change}
@@ -14,7 +14,7 @@ use Rattle.trace_lines.specs.declared.lines.Line.TheVariants.{Bad}
 use Rattle.trace.specs.Replay.{Replay, advance_of}
 use Rattle.trace.specs.Ensured.{kept}
 use Rattle.trace.proofs.ReplayLaws.{stopped_outcome}
-use Rattle.trace.proofs.ContinueLaws.{Advances, Continues, continues_start, advance_continues, advance_within, continues_end, continues_all}
+use Rattle.trace.proofs.ContinueLaws.{Advances, advance_continues, advance_within, continues_end, continues_all}
 use Rattle.trace.proofs.TurnLaws.{going, turn_record, turn_bad, turn_unfinished}
 use Rattle.trace.proofs.session.Session.replay.Goals as goal
 use Rattle.trace.proofs.session.Session.replay.Goals.{In-loop-taken, After-wrapping_add_u64-answered, then-stores, else-stores}
@@ -46,8 +46,8 @@ changed_to c =
     let d = c.answer-step.result.change in
     let asked = sym c.stores.ensures in
     elim c.if-stores.branch [
-      then-stores w ↦ w.monitor-is ∙ stored_in_place m v d (get_or m.guests (v % 8) zero_guest) refl w.apply.result (asked ∙ w.if-stores.true) w.apply.ensures
-    | else-stores w ↦ w.monitor-is ∙ kept_in_place m v d (asked ∙ w.if-stores.false)
+      | then-stores w ↦ w.monitor-is ∙ stored_in_place m v d (get_or m.guests (v % 8) zero_guest) refl w.apply.result (asked ∙ w.if-stores.true) w.apply.ensures
+      | else-stores w ↦ w.monitor-is ∙ kept_in_place m v d (asked ∙ w.if-stores.false)
     ]
 
 turn : (c : After-wrapping_add_u64-answered)

@@ -9,8 +9,8 @@ piece : (c : Joined-filled-gt-PIECE) → take c.args.filled c.args.input.now ≡
 piece c =
     let all : (n : ℕ) → 6236 ≤ n → take n c.args.input.now ≡ c.args.input.now = λ n h. take_all n c.args.input.now (omega arith) in
     elim c.if-filled-gt-PIECE.branch [
-      then-filled-gt-PIECE w ↦ all c.args.filled (omega arith) ∙ sym (all c.if-filled-gt-PIECE.end (omega arith))
-    | else-filled-gt-PIECE w ↦ rw w.end-is
+      | then-filled-gt-PIECE w ↦ all c.args.filled (omega arith) ∙ sym (all c.if-filled-gt-PIECE.end (omega arith))
+      | else-filled-gt-PIECE w ↦ rw w.end-is
     ]
 
 pub returns : goal.returns

@@ -6,7 +6,6 @@ use mathlib.Core.List.{map, ◌∷◌}
 use Rattle.trace_kinds.specs.RecordKind.{kinds, kind_of}
 use Rattle.trace_kinds.specs.declared.kinds.Found.TheVariants.{Known, Unknown}
 use Rattle.trace_kinds.proofs.RecordKindLaws.{numbered}
-use borrow.Author.Rules.{rules}
 use Rattle.trace_kinds.proofs.kinds.RecordKind.of.Goals as goal
 
 pub returns-then-at-le11 : goal.returns-then-at-le11
