@@ -5,7 +5,7 @@
  * symbol of each call ends in _abi and this number, so a program that was compiled for another layout doesn't link; it
  * would overrun its records without a word.
  *
- * The archive is target/staticlib/libembed.a, for x86-64. `rt staticlib embed` builds it, examples/link.c uses it, and
+ * The archive is target/staticlib/libembed.a, for x86-64. `tools/staticlib` builds it, examples/link.c uses it, and
  * docs/LINKING.md says how to link it and what is proved.
  *
  * Memory. The caller owns all of it and lends it for one call. The library keeps nothing between calls, allocates
