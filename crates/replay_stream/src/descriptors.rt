@@ -1,4 +1,6 @@
-ghost use Rattle.std.specs.Prelude.{◌≡◌, ◌≤◌, length, take};
+ghost use Rattle.std.specs.Prelude.{◌≡◌, ◌≤◌, ◌<◌, length, take, IfOk, OnOk};
+ghost use Rattle.std.specs.Io.KnownBytes.{Appends};
+ghost use Rattle.replay_stream.specs.Stream.{Reads};
 
 use std::fmt;
 use std::fmt::{Display, Formatter};
@@ -40,7 +42,9 @@ pub(crate) fn read_behind<R: Read>(
     held: usize,
 ) -> Result<Piece, Stop>
     requires { held ≤ 6236 }
-    ensures { take held input.new ≡ take held input.old }
+    ensures stay { take held input.new ≡ take held input.old }
+    ensures read { held < 6236 → IfOk result (Reads (R.remaining from.old) (R.remaining from.new)
+        (take held input.old) input.new) }
 {
     let bytes: &mut [u8] = input;
     read_piece(from, bytes, held)
@@ -49,7 +53,9 @@ pub(crate) fn read_behind<R: Read>(
 // The same with the input as a slice, of which a part can be lent.
 fn read_piece<R: Read>(from: &mut R, input: &mut [u8], held: usize) -> Result<Piece, Stop>
     requires { held ≤ length input.old }
-    ensures { take held input.new ≡ take held input.old }
+    ensures stay { take held input.new ≡ take held input.old }
+    ensures read { held < length input.old → IfOk result (Reads (R.remaining from.old) (R.remaining from.new)
+        (take held input.old) input.new) }
 {
     match from.read(&mut input[held..]) {
         Ok(0) => Ok(Piece::End),
@@ -59,7 +65,9 @@ fn read_piece<R: Read>(from: &mut R, input: &mut [u8], held: usize) -> Result<Pi
 }
 
 // Writes the first bytes of the buffer.
-pub(crate) fn write_out<W: Write>(to: &mut W, out: &[u8; ROOM], count: usize) -> Result<(), Stop> {
+pub(crate) fn write_out<W: Write>(to: &mut W, out: &[u8; ROOM], count: usize) -> Result<(), Stop>
+    ensures { OnOk result (Appends (W.contents to.old) (W.contents to.new) (take count out.now)) }
+{
     let text: &[u8] = out;
     if count <= text.len() {
         if to.write_all(&text[0..count]).is_ok() {

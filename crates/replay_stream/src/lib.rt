@@ -3,6 +3,12 @@
 // holds one piece of the log at a time.
 #![tactic(auto)]
 
+ghost use Rattle.std.specs.Prelude.{◌≡◌, true, OnOk};
+ghost use Rattle.std.specs.Io.KnownBytes.{Appends};
+ghost use Rattle.trace.specs.Ensured.{kept};
+ghost use Rattle.trace.specs.Replay.{closing};
+ghost use Rattle.replay_stream.specs.Stream.{WritesPieces, WritesReplay};
+
 mod descriptors;
 
 use descriptors::{Piece, Stop, read_behind, write_out};
@@ -18,7 +24,9 @@ pub fn replay<R: Read, W: Write>(
     to: &mut W,
     pieces: u64,
     errors: &impl Eprint,
-) -> bool {
+) -> bool
+    ensures { result ≡ true → WritesReplay (R.remaining from.old) (W.contents to.old) (W.contents to.new) }
+{
     match replay_whole(from, to, pieces) {
         Ok(()) => true,
         Err(stop) => {
@@ -30,7 +38,9 @@ pub fn replay<R: Read, W: Write>(
 }
 
 // The same with no message.
-fn replay_whole<R: Read, W: Write>(from: &mut R, to: &mut W, pieces: u64) -> Result<(), Stop> {
+fn replay_whole<R: Read, W: Write>(from: &mut R, to: &mut W, pieces: u64) -> Result<(), Stop>
+    ensures { OnOk result (WritesReplay (R.remaining from.old) (W.contents to.old) (W.contents to.new)) }
+{
     let mut frames = [0u32; FRAMES];
     let mut map = [0u32; MAP_WORDS];
     let mut out = [0u8; ROOM];
@@ -49,7 +59,10 @@ fn read_on<R: Read, W: Write>(
     from: &mut R,
     to: &mut W,
     pieces: u64,
-) -> Result<(), Stop> {
+) -> Result<(), Stop>
+    ensures { OnOk result (WritesPieces (kept start frames.old map.old) (R.remaining from.old)
+        (W.contents to.old) (W.contents to.new)) }
+{
     let mut input = [0u8; PIECE];
     let mut session = start;
     let mut held: usize = 0;
@@ -73,7 +86,9 @@ fn finish<W: Write>(
     held: usize,
     out: &mut [u8; ROOM],
     to: &mut W,
-) -> Result<(), Stop> {
+) -> Result<(), Stop>
+    ensures { OnOk result (Appends (W.contents to.old) (W.contents to.new) (closing session.answered held)) }
+{
     let count = session.close(held, out);
     write_out(to, out, count)
 }

@@ -1,6 +1,18 @@
--- The bytes that are held fit into the input.
-use Rattle.std.proofs.Common.{◌≤◌}
+-- Few bytes are held, and the stream is on its way from what the reader had left and the writer held at first.
+use Rattle.std.proofs.Common.{◌≡◌, ◌<◌, length, take}
+use Rattle.trace.specs.Ensured.{kept}
+use Rattle.replay_stream.proofs.StreamLaws.{OnTheWay}
 use Rattle.replay_stream.proofs.read_on.Given as goal
 
 abbrev pub invariant-loop : goal.invariant-loop
-invariant-loop g l = l.held ≤ 6236
+invariant-loop g l =
+    (l.held < 37)
+    × (length l.input ≡ 6236)
+    × OnTheWay
+    (kept l.initial.session l.initial.frames l.initial.map)
+    (g.R.Read.remaining l.initial.from)
+    (g.R.Read.remaining l.from)
+    (g.W.Write.contents l.initial.to)
+    (g.W.Write.contents l.to)
+    (kept l.session l.frames l.map)
+    (take l.held l.input)

@@ -1,0 +1,20 @@
+-- What reads and writes of a replay come to, where the bytes that the reader has left and those that the writer holds are known.
+use Rattle.std.specs.Prelude.{◌≡◌, ℕ, List, [], ◌++◌, take, Option, IfSome}
+use Rattle.std.specs.Io.KnownBytes.{Consumes, Appends, IsAtEnd}
+use mathlib.Core.List.{flatten}
+use Rattle.trace.specs.Replay.{Replay, replay_text, pieces_text}
+use Rattle.replay_stream.specs.declared.descriptors.Piece.{Piece}
+use Rattle.replay_stream.specs.declared.descriptors.Piece.TheVariants.{End, Filled}
+
+-- a read behind some bytes that are held: nothing was left, or the first n bytes of the input are those held and those that were read
+abbrev pub Reads : Option (List ℕ) → Option (List ℕ) → List ℕ → List ℕ → Piece → Type 0
+Reads before after held input End = Consumes before after [] × IsAtEnd after
+Reads before after held input (Filled n) = (p : List ℕ) × Consumes before after p × (take n input ≡ held ++ p)
+
+-- all that a reader had left came in pieces, and a writer holds their text and the last lines behind what it held
+abbrev pub WritesPieces : Replay → Option (List ℕ) → Option (List ℕ) → Option (List ℕ) → Type 0
+WritesPieces start log before after = IfSome log (λ xs. (ps : List (List ℕ)) × (flatten ps ≡ xs) × Appends before after (pieces_text start [] ps))
+
+-- a writer holds the whole text of all that a reader had left behind what it held
+abbrev pub WritesReplay : Option (List ℕ) → Option (List ℕ) → Option (List ℕ) → Type 0
+WritesReplay log before after = IfSome log (λ xs. Appends before after (replay_text xs))
