@@ -3,13 +3,14 @@
 // 5,047 records, which is longer than a piece. It rests on replay_stream, and on std for its arguments and files. It decides nothing.
 #![tactic(auto)]
 
-use std::fs::File;
-use std::{env, io};
+use std::rt::Files;
+use std::{env, fs, io};
 
-fn replay_file(rt: &HostRuntime, path: &str) -> io::Result<()> {
-    match File::open(rt, path) {
+// Replays one log. Where it can't be opened, a message says why.
+fn replay_file(rt: &(impl Files + Print + Eprint), path: &str) -> io::Result<()> {
+    match fs::open(rt, path) {
         Ok(mut log) => {
-            replay_stream::replay(&mut log, &mut rt.stdout(), u64::MAX, rt);
+            replay_stream::replay(&mut log, &mut io::writer(rt), u64::MAX, rt);
             Ok(())
         }
         Err(error) => eprintln!(rt; "{path}: {error}"),
