@@ -1,6 +1,6 @@
 -- How a hypercall comes out, by the tests that its code makes on the way.
 use mathlib.Core.Path.{◌≡◌, refl, sym, ap, ◌∙◌}
-use mathlib.Core.Bool.{Bool, cond}
+use mathlib.Core.Bool.{Bool, false, cond}
 use mathlib.Core.List.{List}
 use Prim.Native.Nat.{ℕ, zero, suc, ◌<◌}
 use native.Mathlib.Omega.{arith}
@@ -22,7 +22,10 @@ use Rattle.words.specs.Granule.{granule_of}
 use Rattle.guest_callers.specs.Callers.{caller_tests}
 use Rattle.functions.specs.declared.rules.Registers.{Registers}
 use Rattle.functions.specs.declared.rules.Error.{Error}
+use Rattle.call_table.specs.Table.{granules_of, is_told}
 use Rattle.call_table.specs.declared.rows.CallRow.{CallRow}
+use Rattle.call_table.specs.declared.rows.Count.{Count}
+use Rattle.call_table.specs.declared.rows.Count.TheVariants.{One, Asked, AskedOrOne}
 use Rattle.guest_hypercalls.specs.Calls.{row_tests, done_answer, finished, act_of, row_for, hypercall_command}
 
 -- a call of slot v, by the admission that verdicts 1 to 3 gave it
@@ -47,6 +50,12 @@ module _ (v : ℕ) (r : Registers) (x : View) (q : Admission) (t : refusal_by q 
 
     pub row_passed : y ≡ admission.Passed → (o : Result) → o ≡ result_by x (act_of r w.error w.action x) → o ≡ result_of (hypercall_command v r) x
     row_passed e o h = passed_result (hypercall_command v r) x y all_tested e o (rw (← ew) h)
+
+-- a call that tells no number works on one granule
+pub untold_one : (n : Count) (x : ℕ) → is_told n ≡ false → granules_of n x ≡ 1
+untold_one One x h = refl
+untold_one Asked x h = let z : ◌≡◌ {A = ℕ} 0 1 = cc in absurd (omega arith)
+untold_one AskedOrOne x h = let z : ◌≡◌ {A = ℕ} 0 1 = cc in absurd (omega arith)
 
 -- what is told of granules that were done
 pub some_done : (e : Error) (t : Bool) (k : ℕ) (r : Stop Refusal) → 0 < k → returned (pos 0) (cond t k 0) ≡ done_answer e t k r

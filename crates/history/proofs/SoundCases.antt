@@ -50,7 +50,7 @@ dead_legacy_unsound r = never (sym (ap (λ g. g.legacy) (r.dead refl)))
 abbrev held : Guest → List Bool
 held g = map (may_hold g) (Vacant ∷ Frame false 0 ∷ Frame true 0 ∷ Guarded ∷ Damaged ∷ [])
 
-pub held-granules :
+pub held_granules :
     map held
     (guest false false false false 0 ∷ guest true false false false 1 ∷ guest true false true false 1 ∷ guest true false true true 1
     ∷ guest true true false true 1 ∷ guest true true true true 1 ∷ [])
@@ -61,4 +61,4 @@ pub held-granules :
     ∷ (true ∷ true ∷ false ∷ false ∷ false ∷ [])
     ∷ (true ∷ true ∷ true ∷ true ∷ false ∷ [])
     ∷ []
-held-granules = refl
+held_granules = refl

@@ -18,20 +18,20 @@ abbrev words : ℕ → ℕ → ℕ → ℕ → List ℕ
 words l k r e = l ∷ k ∷ r ∷ e ∷ 5 ∷ 6 ∷ 7 ∷ []
 
 -- each flag alone, all and none
-pub records-written :
+pub records_written :
     map words_of
     (flagged true false false false ∷ flagged false true false false ∷ flagged false false true false ∷ flagged false false false true
     ∷ flagged true true true true ∷ flagged false false false false ∷ [])
     ≡ words 1 0 0 0 ∷ words 0 1 0 0 ∷ words 0 0 1 0 ∷ words 0 0 0 1 ∷ words 1 1 1 1 ∷ words 0 0 0 0 ∷ []
-records-written = refl
+records_written = refl
 
 -- a flag word other than 0 counts as set
-pub records-read :
+pub records_read :
     map guest_in
     (words 1 0 0 0 ∷ words 0 1 0 0 ∷ words 0 0 1 0 ∷ words 0 0 0 1 ∷ words 2 0 0 0 ∷ words 0 2 0 0 ∷ words 0 0 2 0 ∷ words 0 0 0 (2 ^ 63) ∷ [])
     ≡ flagged true false false false ∷ flagged false true false false ∷ flagged false false true false ∷ flagged false false false true
     ∷ flagged true false false false ∷ flagged false true false false ∷ flagged false false true false ∷ flagged false false false true ∷ []
-records-read = refl
+records_read = refl
 
 -- 56 words: a record with flag words above 1 in slot 1, and one in slot 7
 abbrev pub lent_records : List ℕ
@@ -43,7 +43,7 @@ unfolding guest_at
 slots_read = refl
 
 -- a record that changed is written whole, flags as 0 or 1; the others stay word for word
-pub slots-written :
+pub slots_written :
     words_after lent_records (with_guest (monitor_in lent_records) 7 (flagged true true false true))
     ∷ words_after lent_records (with_guest (monitor_in lent_records) 1 (flagged true false true true))
     ∷ words_after lent_records (monitor_in lent_records)
@@ -53,7 +53,7 @@ pub slots-written :
     ∷ lent_records
     ∷ []
 unfolding words_after guest_at with_guest
-slots-written = refl
+slots_written = refl
 
 pub answers_written : answer_words (numbers 1 2 3 4 5) ≡ 1 ∷ 2 ∷ 3 ∷ 4 ∷ 5 ∷ []
 answers_written = refl
