@@ -7,19 +7,21 @@ use std::rt::Files;
 use std::{env, fs, io};
 
 // Replays one log. Where it can't be opened, a message says why.
-fn replay_file(rt: &(impl Files + Print + Eprint), path: &str) -> io::Result<()> {
+fn replay_file(rt: &(impl Files + Print + Eprint), path: &str) {
     match fs::open(rt, path) {
         Ok(mut log) => {
             replay_stream::replay(&mut log, &mut io::writer(rt), u64::MAX, rt);
-            Ok(())
         }
-        Err(error) => eprintln!(rt; "{path}: {error}"),
+        Err(error) => {
+            // Where the message can't be written either, the next log is replayed all the same.
+            let _ = eprintln!(rt; "{path}: {error}");
+        }
     }
 }
 
 fn main(rt: HostRuntime) -> io::Result<()> {
     for path in env::args(&rt)?.skip(1) {
-        replay_file(&rt, path.as_str())?;
+        replay_file(&rt, path.as_str());
     }
     Ok(())
 }
