@@ -4,7 +4,7 @@ ghost use Rattle.answers.specs.Answer.{verdict_with_two, returned, numbers_of};
 use words::register;
 
 // How a call is answered.
-#[derive(Clone, Copy)]
+#[derive(Clone, Copy, PartialEq, Eq)]
 pub enum Answer {
     // A host call is done; the value is its v0.
     Done(u64),
@@ -37,7 +37,7 @@ pub enum Answer {
 }
 
 // An answer as document 01 numbers it.
-#[derive(Clone, Copy)]
+#[derive(Clone, Copy, PartialEq, Eq)]
 pub struct Numbers {
     pub verdict: u64,
     pub v0: u64,
