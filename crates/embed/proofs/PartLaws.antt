@@ -10,7 +10,7 @@ use borrow.Author.Tests.{ne_eqb, eqb-true}
 use lib.Dec.{eqb}
 use lib.ListN.{length, get_or, take, drop}
 use Rattle.tables.specs.Row.{bounds_of, row_of}
-use Rattle.tables.specs.declared.rows.RowBounds.{RowBounds}
+use Rattle.std.specs.declared.ops.Range.{Range}
 use Rattle.records.specs.Monitor.{guest_of}
 use Rattle.commands.specs.Tests.{first_refusal}
 use Rattle.commands.specs.State.{Answered, state}
@@ -37,7 +37,7 @@ module _ (v : ℕ) (r : Monitor) (m : List ℕ) (g : Guest) (e : g ≡ guest_of 
     pub part_empty : length row ≡ 0 → 0 ∷ 0 ∷ [] ≡ part_words v r m
     part_empty h = let none : length (show_of v r m).part ≡ 0 = rw handed at h in rw none
 
-    pub part_there : length row ≢ 0 → (b : RowBounds) → b ≡ bounds_of (length m) v → b.start ∷ length row ∷ [] ≡ part_words v r m
+    pub part_there : length row ≢ 0 → (b : Range ℕ) → b ≡ bounds_of (length m) v → b.start ∷ length row ∷ [] ≡ part_words v r m
     part_there h b q = rw (q, handed, ne_eqb (length (show_of v r m).part) 0 (rw handed at h))
 
 take_taken : (k : ℕ) (l : List ℕ) → take (length (take k l)) l ≡ take k l

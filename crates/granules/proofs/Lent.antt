@@ -16,7 +16,7 @@ use Rattle.words.specs.MapWord.{map_bits, map_word_of}
 use Rattle.tables.specs.Length.{width_of}
 use Rattle.tables.specs.Row.{bounds, bounds_of}
 use Rattle.pairs.specs.Pair.{granule_state}
-use Rattle.tables.specs.declared.rows.RowBounds.{RowBounds}
+use Rattle.std.specs.declared.ops.Range.{Range}
 use Rattle.tables.proofs.RowLaws.{row_inside, bounds_slot}
 use Rattle.granules.specs.Kind.{word_with, GranuleChange, leave_damaged, leave_other, write_bare, write_framed, change_of}
 use Rattle.granules.specs.Step.{Place, place, Refusal, not_done, written, step_from, row_step, table_step}
@@ -100,7 +100,7 @@ same_stop (Stop.refused r) = refl
 same_stop Stop.out_of_fuel = refl
 
 -- a range over the row of slot v, lent as the part from a to e, is one over the table, with that part put back
-pub lent : (o : Operation) (v n : ℕ) (map frames : List ℕ) (g : ℕ) (r : RowBounds) → v < 8 → r ≡ bounds_of (length map) v
+pub lent : (o : Operation) (v n : ℕ) (map frames : List ℕ) (g : ℕ) (r : Range ℕ) → v < 8 → r ≡ bounds_of (length map) v
     → (row frames' : List ℕ) (d h : ℕ) (q : Stop Refusal)
     → run (row_step o v (length (mid_of r.start (r.end - r.start) map))) n (place (mid_of r.start (r.end - r.start) map) frames g) ≡ ended d (place row frames' h) q
     → run (table_step o v) n (place map frames g) ≡ ended d (place (put_mid r.start (r.end - r.start) map row) frames' h) q

@@ -5,12 +5,12 @@ use Prim.Native.Nat.{ℕ, ◌-◌}
 use borrow.Rule.Slice.PartMut.{mid_of, put_mid, Post-is}
 use lib.ListN.{length, take}
 use Rattle.tables.specs.Row.{bounds_of, row_of, with_row}
-use Rattle.tables.specs.declared.rows.RowBounds.{RowBounds}
+use Rattle.std.specs.declared.ops.Range.{Range}
 use Rattle.tables.proofs.RowLaws.{in_order}
 use Rattle.rows.specs.WholeRow.{vacant_row, frames_freed, frames_named}
 
 -- the row of slot v, lent as the part between its bounds and made vacant
-pub row_vacated : (map : List ℕ) (v : ℕ) (r : RowBounds) → r ≡ bounds_of (length map) v → (frames row frames' : List ℕ) (count : ℕ)
+pub row_vacated : (map : List ℕ) (v : ℕ) (r : Range ℕ) → r ≡ bounds_of (length map) v → (frames row frames' : List ℕ) (count : ℕ)
     → (row ≡ vacant_row (length (mid_of r.start (r.end - r.start) map))) × (frames' ≡ frames_freed (mid_of r.start (r.end - r.start) map) frames)
     × (count ≡ frames_named (mid_of r.start (r.end - r.start) map))
     → (put_mid r.start (r.end - r.start) map row ≡ with_row map v (vacant_row (length (row_of map v)))) × (frames' ≡ frames_freed (row_of map v) frames)

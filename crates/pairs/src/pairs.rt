@@ -108,7 +108,7 @@ pub fn granule_state(frames: &[u32], slot: usize, granule: Granule, word: u32) -
     ensures { result ≡ granule_state frames.now slot granule.0 (map_word_of word) }
 {
     let number = granule.0 as usize;
-    match MapWord::of(word) {
+    match MapWord::from(word) {
         MapWord::Vacant => GranuleState::Vacant,
         MapWord::Guarded => GranuleState::Guarded,
         MapWord::Damaged => GranuleState::Damaged,
@@ -164,7 +164,7 @@ pub fn pair_of(map: &[u32], frames: &[u32], frame: u64) -> FrameState
 {
     let number = frame as usize;
     if number < frames.len() {
-        match FrameWord::of(frames[number]) {
+        match FrameWord::from(frames[number]) {
             FrameWord::Host => FrameState::Host,
             FrameWord::Waiting => FrameState::Waiting,
             FrameWord::Damaged => FrameState::Damaged,

@@ -24,7 +24,7 @@ pub fn vacate(row: &mut [u32], frames: &mut [u32]) -> u64
 fn free_frame(frames: &mut [u32], word: u32) -> u64
     ensures { (frames.new ≡ frame_freed (map_word_of word) frames.old) × (result ≡ frame_named (map_word_of word)) }
 {
-    match MapWord::of(word) {
+    match MapWord::from(word) {
         MapWord::Vacant => 0,
         MapWord::Frame { shared: _, frame } => {
             if frame < frames.len() {

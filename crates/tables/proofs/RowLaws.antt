@@ -10,7 +10,7 @@ use lib.ListN.{length, get_or, drop, length-take, length-drop}
 use lib.Seq.{get_or-take, get_or-drop}
 use Rattle.tables.specs.Length.{width_of}
 use Rattle.tables.specs.Row.{bounds, bounds_of, row_of, word_index, word_at}
-use Rattle.tables.specs.declared.rows.RowBounds.{RowBounds}
+use Rattle.std.specs.declared.ops.Range.{Range}
 
 pub row_inside : (n v : ℕ) → v < 8 → v * width_of n + width_of n ≤ n
 row_inside n v h = omega (arith, mul-le-mul_right {m = v} {n = 7} (n / 8) (omega arith))
@@ -45,11 +45,11 @@ module _ (map : List ℕ) (v : ℕ) where
       rw (bounds_slot (length map) v h) (get_or-take (v * w + w - v * w) (drop (v * w) map) g 0 k ∙ get_or-drop (v * w) map g 0)
 
 -- what the code finds of a row, where it has computed its bounds
-pub in_order : (map : List ℕ) (v : ℕ) (r : RowBounds) → r ≡ bounds_of (length map) v → (r.start ≤ r.end) × (r.end ≤ length map)
+pub in_order : (map : List ℕ) (v : ℕ) (r : Range ℕ) → r ≡ bounds_of (length map) v → (r.start ≤ r.end) × (r.end ≤ length map)
 in_order map v r e = rw e (bounds_ordered (length map) v)
 
 -- the index of a granule's word, from where its row starts
-pub index_inside : (map : List ℕ) (v g : ℕ) (r : RowBounds) → r ≡ bounds_of (length map) v → v < 8 → g < width_of (length map)
+pub index_inside : (map : List ℕ) (v g : ℕ) (r : Range ℕ) → r ≡ bounds_of (length map) v → v < 8 → g < width_of (length map)
     → (r.start + g ≡ word_index (length map) v g) × (r.start + g < length map)
 index_inside map v g r e hv hg =
     let start : r ≡ bounds (v * width_of (length map)) (v * width_of (length map) + width_of (length map)) = e ∙ bounds_slot (length map) v hv in

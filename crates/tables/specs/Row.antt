@@ -1,13 +1,13 @@
 -- Document 01, "Tables": "slot v's row starts at word v × W and covers granules 0 to W − 1 of its guest address space".
 use Rattle.std.specs.Prelude.{cond, List, ◌++◌, ℕ, ◌+◌, ◌*◌, ◌-◌, ltb, length, get_or, take, drop}
 use Rattle.tables.specs.Length.{width_of}
-use Rattle.tables.specs.declared.rows.RowBounds.{RowBounds}
+use Rattle.std.specs.declared.ops.Range.{Range}
 
-abbrev pub bounds : ℕ → ℕ → RowBounds
+abbrev pub bounds : ℕ → ℕ → Range ℕ
 bounds a e = record { start = a; end = e }
 
 -- slot v's row in a map table of n words; "there are 8 guest slots, 0 to 7", and another has none
-unfoldable pub bounds_of : ℕ → ℕ → RowBounds
+unfoldable pub bounds_of : ℕ → ℕ → Range ℕ
 bounds_of n v = cond (ltb v 8) (bounds (v * width_of n) (v * width_of n + width_of n)) (bounds 0 0)
 
 -- the row as a part of the map table

@@ -6,4 +6,4 @@ mod lengths;
 mod rows;
 
 pub use lengths::{frame_length_holds, lengths_hold, map_length_holds};
-pub use rows::{RowBounds, row, row_bounds, row_width};
+pub use rows::{row, row_bounds, row_width};

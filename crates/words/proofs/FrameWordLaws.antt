@@ -3,7 +3,7 @@ use mathlib.Core.Path.{◌≡◌, refl, sym, ap, ◌∙◌}
 use mathlib.Core.Bool.{Bool, true, false, cond, ◌&&◌, beq}
 use Prim.Native.Nat.{ℕ, ◌+◌, ◌*◌, ◌-◌, ◌/◌, ◌%◌, ◌<◌, ◌≤◌, ◌^◌}
 use native.Mathlib.Omega.{arith}
-use lib.Bits.{bit_xor, xor_block, xor_zero_r}
+use lib.Bits.{bit_and, bit_xor, and_mask, xor_block, xor_zero_r}
 use lib.Dec.{eqb, leb}
 use mir.Val.{bool_byte}
 use borrow.Author.Tests.{eq-eqb, ne_eqb, le-leb, eqb-true, eqb-false, leb-true}
@@ -131,20 +131,26 @@ pub sharing_cast : (s : Bool) → bool_byte s ≡ sharing_byte s
 sharing_cast true = refl
 sharing_cast false = refl
 
--- a word that is neither the host's nor waiting, by its fields
+-- a word that is neither the host's nor waiting, by its fields as the code takes them
 module _ (w : ℕ) (n₀ : w ≡ 0 → ⊥) (n₁ : w ≡ 0xFF000000 → ⊥) where
-  pub owner_damaged : ((1 ≤ w / 2 ^ 24) × (w / 2 ^ 24 ≤ 8) × (w / 2 ^ 16 % 2 ^ 8 ≤ 1) → ⊥) → Damaged ≡ frame_word_of w
+  sharing_field : bit_and (w / 2 ^ 16) 0xFF ≡ w / 2 ^ 16 % 2 ^ 8
+  sharing_field = and_mask (w / 2 ^ 16) 8
+
+  pub owner_damaged : ((1 ≤ w / 2 ^ 24) × (w / 2 ^ 24 ≤ 8) × (bit_and (w / 2 ^ 16) 0xFF ≤ 1) → ⊥) → Damaged ≡ frame_word_of w
   unfolding frame_word_of
   owner_damaged n =
       let a = w / 2 ^ 24 in
       let b = w / 2 ^ 16 % 2 ^ 8 in
-      rw (ne_eqb w 0 n₀, ne_eqb w 0xFF000000 n₁, false_unless (leb 1 a && (leb a 8 && leb b 1)) (λ t. n (owner_fields a b t)))
+      let fields : (1 ≤ a) × (a ≤ 8) × (b ≤ 1) → ⊥ = rw sharing_field at n in
+      rw (ne_eqb w 0 n₀, ne_eqb w 0xFF000000 n₁, false_unless (leb 1 a && (leb a 8 && leb b 1)) (λ t. fields (owner_fields a b t)))
 
-  pub owner_named : (1 ≤ w / 2 ^ 24) × (w / 2 ^ 24 ≤ 8) × (w / 2 ^ 16 % 2 ^ 8 ≤ 1)
-      → Owned (w / 2 ^ 24 - 1) (eqb (w / 2 ^ 16 % 2 ^ 8) 1) (w % 2 ^ 16) ≡ frame_word_of w
+  pub owner_named : (1 ≤ w / 2 ^ 24) × (w / 2 ^ 24 ≤ 8) × (bit_and (w / 2 ^ 16) 0xFF ≤ 1)
+      → Owned (w / 2 ^ 24 - 1) (eqb (bit_and (w / 2 ^ 16) 0xFF) 1) (w % 2 ^ 16) ≡ frame_word_of w
   unfolding frame_word_of
   owner_named h =
-      rw (ne_eqb w 0 n₀, ne_eqb w 0xFF000000 n₁, le-leb 1 (w / 2 ^ 24) h.0, le-leb (w / 2 ^ 24) 8 h.1, le-leb (w / 2 ^ 16 % 2 ^ 8) 1 h.2)
+      let b = w / 2 ^ 16 % 2 ^ 8 in
+      let few : b ≤ 1 = rw sharing_field at h.2 in
+      rw (sharing_field, ne_eqb w 0 n₀, ne_eqb w 0xFF000000 n₁, le-leb 1 (w / 2 ^ 24) h.0, le-leb (w / 2 ^ 24) 8 h.1, le-leb b 1 few)
 
 -- the sharing byte's lowest bit changed
 sharing_flipped : (v g : ℕ) (s t : Bool) → g < 2 ^ 16 → bit_xor (sharing_byte s) 1 ≡ sharing_byte t → bit_xor (frame_bits (Owned v s g)) 0x10000 ≡ frame_bits (Owned v t g)

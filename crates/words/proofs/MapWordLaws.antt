@@ -4,7 +4,7 @@ use mathlib.Core.Bool.{Bool, true, false, cond, beq}
 use mathlib.Core.Logic.{◌≢◌}
 use Prim.Native.Nat.{ℕ, ◌+◌, ◌*◌, ◌/◌, ◌%◌, ◌<◌, ◌≤◌, ◌^◌}
 use native.Mathlib.Omega.{arith}
-use lib.Bits.{bit_or, bit_xor, xor_self}
+use lib.Bits.{bit_and, bit_or, bit_xor, and_mask, xor_self}
 use lib.Dec.{eqb}
 use mir.Val.{bool_byte}
 use borrow.Author.Tests.{eq-eqb, ne_eqb, eqb-true, eqb-false}
@@ -79,17 +79,20 @@ names_frame_built s f h =
     (λ w e. map_encode_decode w (λ d. let z : ◌≡◌ {A = ℕ} 0 1 = cc in omega arith))
 
 -- a word of kind 1 or 2 is a frame's, unless a bit between kind and frame is set
-pub frame_said : (w : ℕ) → w / 2 ^ 30 ≢ 0 → w / 2 ^ 30 < 3 → w / 2 ^ 16 % 2 ^ 14 ≡ 0 → Frame (eqb (w / 2 ^ 30) 2) (w % 2 ^ 16) ≡ map_word_of w
+pub frame_said : (w : ℕ) → w / 2 ^ 30 ≢ 0 → w / 2 ^ 30 < 3 → bit_and (w / 2 ^ 16) 0x3FFF ≡ 0 → Frame (eqb (w / 2 ^ 30) 2) (w % 2 ^ 16) ≡ map_word_of w
 unfolding map_word_of
-frame_said w some few none = go (eqb (w / 2 ^ 30) 2) refl
+frame_said w some few clear = go (eqb (w / 2 ^ 30) 2) refl
   where
+    none : w / 2 ^ 16 % 2 ^ 14 ≡ 0
+    none = sym (and_mask (w / 2 ^ 16) 14) ∙ clear
+
     go : (b : Bool) → eqb (w / 2 ^ 30) 2 ≡ b → Frame b (w % 2 ^ 16) ≡ map_word_of w
     go true e =
         let kind = eqb-true (w / 2 ^ 30) 2 e in
-        rw (ne_eqb w 0 (λ z. omega arith), ne_eqb (w / 2 ^ 16) 0x4000 (λ z. omega arith), eq-eqb (w / 2 ^ 16) 0x8000 (omega arith))
+        rw (ne_eqb w 0 (λ z. omega arith), ne_eqb (w / 2 ^ 16) 0x4000 (λ z. omega arith), eq-eqb (w / 2 ^ 16) 0x8000 (omega (arith, none)))
     go false e =
         let kind = eqb-false (w / 2 ^ 30) 2 e in
-        rw (ne_eqb w 0 (λ z. omega arith), eq-eqb (w / 2 ^ 16) 0x4000 (omega arith))
+        rw (ne_eqb w 0 (λ z. omega arith), eq-eqb (w / 2 ^ 16) 0x4000 (omega (arith, none)))
 
 pub damaged_said : (w : ℕ) → w ≢ 0 → (w / 2 ^ 16 ≡ 0x4000 → ⊥) → (w / 2 ^ 16 ≡ 0x8000 → ⊥) → w ≢ 0xC0000000 → Damaged ≡ map_word_of w
 unfolding map_word_of

@@ -1,7 +1,5 @@
 -- Document 01, "Tables": "A granule is 4,096 bytes, and addresses and granule numbers must not be mixed."
-use Rattle.std.specs.Prelude.{Bool, cond, ℕ, ◌*◌, ◌/◌, ◌%◌, ◌^◌, eqb, ltb}
-use Rattle.words.specs.declared.granule.Address.{Address}
-use Rattle.words.specs.declared.granule.Address.TheVariants.{At, Beyond}
+use Rattle.std.specs.Prelude.{Bool, cond, ℕ, ◌*◌, ◌/◌, ◌%◌, ◌^◌, eqb, ltb, Option, Some, None}
 
 abbrev pub granule_size : ℕ
 granule_size = 4096
@@ -19,5 +17,5 @@ abbrev pub address_of : ℕ → ℕ
 address_of g = g * granule_size
 
 -- the same as an answer: 64 bits hold it, or it is beyond them
-abbrev pub address_at : ℕ → Address
-address_at g = cond (ltb (address_of g) (2 ^ 64)) (At (address_of g)) Beyond
+abbrev pub address_at : ℕ → Option ℕ
+address_at g = cond (ltb (address_of g) (2 ^ 64)) (Some (address_of g)) None

@@ -2,15 +2,8 @@ ghost use Rattle.std.specs.Prelude.{◌≡◌};
 ghost use Rattle.words.specs.Granule.{granule_of, is_base, address_at};
 
 // The number of a granule in a guest address space. It is no address.
-#[derive(Clone, Copy)]
+#[derive(Clone, Copy, PartialEq, Eq)]
 pub struct Granule(pub u64);
-
-// The first address of a granule, where 64 bits hold it.
-#[derive(Clone, Copy)]
-pub enum Address {
-    At(u64),
-    Beyond,
-}
 
 impl Granule {
     // A granule's bytes.
@@ -30,15 +23,10 @@ impl Granule {
         address % Granule::SIZE == 0
     }
 
-    // The granule's first address.
-    pub fn address(self) -> Address
+    // The granule's first address, where 64 bits hold it.
+    pub fn address(self) -> Option<u64>
         ensures { result ≡ address_at self.0 }
     {
-        let number = self.0;
-        if number < 1 << 52 {
-            Address::At(number * Granule::SIZE)
-        } else {
-            Address::Beyond
-        }
+        self.0.checked_mul(Granule::SIZE)
     }
 }

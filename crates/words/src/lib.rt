@@ -9,6 +9,6 @@ mod map_word;
 mod signed;
 
 pub use frame_word::FrameWord;
-pub use granule::{Address, Granule};
+pub use granule::Granule;
 pub use map_word::MapWord;
 pub use signed::register;

@@ -5,5 +5,5 @@ ghost use Rattle.words.specs.Register.{register_of};
 pub fn register(x: i64) -> u64
     ensures { result ≡ register_of x }
 {
-    if x >= 0 { x as u64 } else { !((-1 - x) as u64) }
+    x.cast_unsigned()
 }

@@ -5,27 +5,27 @@ use Rattle.pairs.proofs.pairs.granule_state.Goals as goal
 
 pub returns-then-names : goal.returns-then-names
 returns-then-names c =
-    rw (← c.of.ensures, c.in-Frame.is)
+    rw (← c.from.ensures, c.in-Frame.is)
     (frame_tested _ _ _ _ _ c.if-frame-frames.true _ _ c.names.ensures c.if-names.true)
 
 pub returns-in-Vacant : goal.returns-in-Vacant
 unfolding granule_state
-returns-in-Vacant c = rw (← c.of.ensures, c.in-Vacant.is)
+returns-in-Vacant c = rw (← c.from.ensures, c.in-Vacant.is)
 
 pub returns-in-Guarded : goal.returns-in-Guarded
 unfolding granule_state
-returns-in-Guarded c = rw (← c.of.ensures, c.in-Guarded.is)
+returns-in-Guarded c = rw (← c.from.ensures, c.in-Guarded.is)
 
 pub returns-in-Damaged : goal.returns-in-Damaged
 unfolding granule_state
-returns-in-Damaged c = rw (← c.of.ensures, c.in-Damaged.is)
+returns-in-Damaged c = rw (← c.from.ensures, c.in-Damaged.is)
 
 pub returns-else-names : goal.returns-else-names
 returns-else-names c =
-    rw (← c.of.ensures, c.in-Frame.is)
+    rw (← c.from.ensures, c.in-Frame.is)
     (frame_tested _ _ _ _ _ c.if-frame-frames.true _ _ c.names.ensures c.if-names.false)
 
 pub returns-else-frame-frames : goal.returns-else-frame-frames
 returns-else-frame-frames c =
-    rw (← c.of.ensures, c.in-Frame.is)
+    rw (← c.from.ensures, c.in-Frame.is)
     (frame_beyond _ _ _ _ _ c.if-frame-frames.false)

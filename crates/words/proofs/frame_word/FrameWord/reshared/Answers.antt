@@ -6,5 +6,5 @@ use Rattle.words.proofs.frame_word.FrameWord.reshared.Goals as goal
 pub returns-then-from-to : goal.returns-then-from-to
 returns-then-from-to c = let a = c.args in λ v g e. frame_reshared a.from a.to a.word v g e true c.if-from-to.true
 
-pub returns : goal.returns
-returns c = let a = c.args in λ v g e. frame_reshared a.from a.to a.word v g e false c.if-from-to.false
+pub returns-else-from-to : goal.returns-else-from-to
+returns-else-from-to c = let a = c.args in λ v g e. frame_reshared a.from a.to a.word v g e false c.if-from-to.false
