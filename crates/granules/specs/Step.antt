@@ -1,5 +1,5 @@
 -- Document 01, "Guest calls" and "Ranges for demand 3": one granule, by one step.
-use Rattle.std.specs.Prelude.{cond, List, ℕ, suc, ◌+◌, ◌*◌, ltb, length, get_or, set}
+use Rattle.std.specs.Prelude.{cond, Result, Ok, Err, List, ℕ, suc, ◌+◌, ◌*◌, ltb, length, get_or, set}
 use Rattle.runs.specs.Run.{Step, took, refuses, Stop, complete, refused, End, ended}
 use Rattle.words.specs.MapWord.{map_bits, map_word_of}
 use Rattle.words.specs.FrameWord.{frame_bits}
@@ -8,8 +8,8 @@ use Rattle.pairs.specs.Pair.{granule_state}
 use Rattle.granules.specs.Kind.{word_with, frame_then, GranuleChange, leave_damaged, leave_other, write_bare, write_framed, change_of}
 use Rattle.granules.specs.declared.kinds.Kind.{Kind}
 use Rattle.granules.specs.declared.kinds.Operation.{Operation}
-use Rattle.granules.specs.declared.step.Outcome.{Outcome}
-use Rattle.granules.specs.declared.step.Outcome.TheVariants as outcome
+use Rattle.granules.specs.declared.step.StepError.{StepError}
+use Rattle.granules.specs.declared.step.StepError.TheVariants.{NotDone, Damaged}
 
 -- where a range stands: the map words, the frame words, and the next granule
 pub data Place : Type 0 where
@@ -44,14 +44,14 @@ row_step o v width = step_from o v 0 width
 abbrev pub table_step : Operation → ℕ → Place → Step Place Refusal
 table_step o v (place map frames g) = step_from o v (v * width_of (length map)) (width_of (length map)) (place map frames g)
 
--- what the code's outcome says
-abbrev pub stop_by : Outcome → Stop Refusal
-stop_by outcome.Done = complete
-stop_by outcome.Refused = refused not_done
-stop_by outcome.Damaged = refused is_damaged
+-- what the code's result says
+abbrev pub stop_by : Result (Unit {0}) StepError → Stop Refusal
+stop_by (Ok u) = complete
+stop_by (Err NotDone) = refused not_done
+stop_by (Err Damaged) = refused is_damaged
 
 -- a single step at granule g that ended so, and left these words
-abbrev pub one_end : Outcome → List ℕ → List ℕ → ℕ → End Place Refusal
-one_end outcome.Done map frames g = ended 1 (place map frames (suc g)) complete
-one_end outcome.Refused map frames g = ended 0 (place map frames g) (refused not_done)
-one_end outcome.Damaged map frames g = ended 0 (place map frames g) (refused is_damaged)
+abbrev pub one_end : Result (Unit {0}) StepError → List ℕ → List ℕ → ℕ → End Place Refusal
+one_end (Ok u) map frames g = ended 1 (place map frames (suc g)) complete
+one_end (Err NotDone) map frames g = ended 0 (place map frames g) (refused not_done)
+one_end (Err Damaged) map frames g = ended 0 (place map frames g) (refused is_damaged)

@@ -2,7 +2,7 @@ ghost use Rattle.std.specs.Prelude.{◌≡◌};
 ghost use Rattle.granules.specs.Comparison.{has_frame, is_shared, is_guarded};
 
 // The kind of a granule that is not damaged.
-#[derive(Clone, Copy)]
+#[derive(Clone, Copy, PartialEq, Eq)]
 pub enum Kind {
     Vacant,
     Private,
@@ -11,7 +11,7 @@ pub enum Kind {
 }
 
 // What a call does to a granule, as data: the kind that it needs and the kind that it makes. The frame follows the kind that is made.
-#[derive(Clone, Copy)]
+#[derive(Clone, Copy, PartialEq, Eq)]
 pub struct Operation {
     pub needs: Kind,
     pub makes: Kind,
@@ -22,35 +22,20 @@ impl Kind {
     pub(crate) fn has_frame(self) -> bool
         ensures { result ≡ has_frame self }
     {
-        match self {
-            Kind::Vacant => false,
-            Kind::Private => true,
-            Kind::Shared => true,
-            Kind::Guarded => false,
-        }
+        matches!(self, Kind::Private | Kind::Shared)
     }
 
     // Whether the frame of a granule of this kind is shared.
     pub(crate) fn is_shared(self) -> bool
         ensures { result ≡ is_shared self }
     {
-        match self {
-            Kind::Vacant => false,
-            Kind::Private => false,
-            Kind::Shared => true,
-            Kind::Guarded => false,
-        }
+        self == Kind::Shared
     }
 
     // Whether a granule of this kind, without a frame, is guarded.
     pub(crate) fn is_guarded(self) -> bool
         ensures { result ≡ is_guarded self }
     {
-        match self {
-            Kind::Vacant => false,
-            Kind::Private => false,
-            Kind::Shared => false,
-            Kind::Guarded => true,
-        }
+        self == Kind::Guarded
     }
 }

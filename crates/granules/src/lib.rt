@@ -6,4 +6,4 @@ mod kinds;
 mod step;
 
 pub use kinds::{Kind, Operation};
-pub use step::{Outcome, change_granule};
+pub use step::{StepError, change_granule};

@@ -7,7 +7,7 @@ ghost use Rattle.guest_hypercalls.specs.Calls.{done_answer};
 
 use answers::Answer;
 use functions::Error;
-use granules::{Operation, Outcome};
+use granules::{Operation, StepError};
 use ranges::{Progress, change_range};
 use tables::row_bounds;
 use words::Granule;
@@ -42,26 +42,11 @@ pub(crate) fn answer_of(progress: Progress, tells: bool, error: Error) -> Answer
     ensures { result ≡ done_answer error tells progress.done (stop_by progress.outcome) }
 {
     let done = progress.done;
-    let outcome = progress.outcome;
     if 0 < done {
-        if tells {
-            return Answer::Return {
-                r0: 0,
-                r1: done,
-                r2: 0,
-                r3: 0,
-            };
-        }
-        return Answer::Return {
-            r0: 0,
-            r1: 0,
-            r2: 0,
-            r3: 0,
-        };
+        return Answer::returned(0, if tells { done } else { 0 });
     }
-    match outcome {
-        Outcome::Done => error.answer(),
-        Outcome::Refused => error.answer(),
-        Outcome::Damaged => Answer::Damaged,
+    match progress.outcome {
+        Err(StepError::Damaged) => Answer::Damaged,
+        Ok(()) | Err(StepError::NotDone) => error.answer(),
     }
 }

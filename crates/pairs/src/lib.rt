@@ -5,6 +5,4 @@
 
 mod pairs;
 
-pub use pairs::{
-    Comparison, FrameState, GranuleState, compare_frame, granule_state, pair_at, pair_of,
-};
+pub use pairs::{FrameState, GranuleState, compare_frame, granule_state, pair_at, pair_of};

@@ -1,14 +1,14 @@
-ghost use Rattle.std.specs.Prelude.{◌≡◌, ◌<◌};
+ghost use Rattle.std.specs.Prelude.{◌≡◌};
 ghost use Rattle.words.specs.MapWord.{map_word_of};
-ghost use Rattle.words.specs.declared.frame_word.FrameWord.TheVariants.{Owned as OwnedWord};
 ghost use Rattle.pairs.specs.Comparison.{frame_compared};
-ghost use Rattle.pairs.specs.Pair.{granule_state, granule_undamaged, granule_vacant, pair_at, frame_state, frame_undamaged, frame_hosts, pair_of};
+ghost use Rattle.pairs.specs.Pair.{granule_state, granule_undamaged, granule_vacant, pair_at, frame_undamaged, frame_hosts, pair_of};
 
 use tables::row;
 use words::{FrameWord, Granule, MapWord};
 
 // What a granule holds. Damaged: its map word is, or is not named back.
-#[derive(Clone, Copy)]
+// Damaged is one of document 01's states, which `granule_state` and `pair_at` give: it stays a case, and is no absent value.
+#[derive(Clone, Copy, PartialEq, Eq)]
 pub enum GranuleState {
     Vacant,
     Frame { shared: bool, frame: usize },
@@ -20,45 +20,18 @@ impl GranuleState {
     pub fn is_undamaged(self) -> bool
         ensures { result ≡ granule_undamaged self }
     {
-        match self {
-            GranuleState::Vacant => true,
-            GranuleState::Frame {
-                shared: _,
-                frame: _,
-            } => true,
-            GranuleState::Guarded => true,
-            GranuleState::Damaged => false,
-        }
+        self != GranuleState::Damaged
     }
 
     pub fn is_vacant(self) -> bool
         ensures { result ≡ granule_vacant self }
     {
-        match self {
-            GranuleState::Vacant => true,
-            GranuleState::Frame {
-                shared: _,
-                frame: _,
-            } => false,
-            GranuleState::Guarded => false,
-            GranuleState::Damaged => false,
-        }
+        self == GranuleState::Vacant
     }
 }
 
-// How a granule compares with one of some kind.
-#[derive(Clone, Copy)]
-pub enum Comparison {
-    // It is of another kind, or damaged.
-    Differs,
-    // It is of the kind, and has no frame.
-    Bare,
-    // It is of the kind, and has this frame.
-    Frame(usize),
-}
-
-// Whose a frame is. Damaged: its frame word is, or is not named back.
-#[derive(Clone, Copy)]
+// Whose a frame is. Damaged: its frame word is, or is not named back; a case of `frame_state` and `pair_of`, like a granule's.
+#[derive(Clone, Copy, PartialEq, Eq)]
 pub enum FrameState {
     Host,
     Waiting,
@@ -71,35 +44,18 @@ pub enum FrameState {
 }
 
 impl FrameState {
+    // As a granule's: a trait for two tests of one line each would be longer than they are.
     pub fn is_undamaged(self) -> bool
         ensures { result ≡ frame_undamaged self }
     {
-        match self {
-            FrameState::Host => true,
-            FrameState::Waiting => true,
-            FrameState::Owned {
-                slot: _,
-                shared: _,
-                granule: _,
-            } => true,
-            FrameState::Damaged => false,
-        }
+        self != FrameState::Damaged
     }
 
     // Whether the frame is the host's.
     pub fn is_host(self) -> bool
         ensures { result ≡ frame_hosts self }
     {
-        match self {
-            FrameState::Host => true,
-            FrameState::Waiting => false,
-            FrameState::Owned {
-                slot: _,
-                shared: _,
-                granule: _,
-            } => false,
-            FrameState::Damaged => false,
-        }
+        self == FrameState::Host
     }
 }
 
@@ -113,36 +69,34 @@ pub fn granule_state(frames: &[u32], slot: usize, granule: Granule, word: u32) -
         MapWord::Guarded => GranuleState::Guarded,
         MapWord::Damaged => GranuleState::Damaged,
         MapWord::Frame { shared, frame } => {
-            if frame < frames.len() {
-                if FrameWord::names(frames[frame], slot, shared, number) {
-                    return GranuleState::Frame { shared, frame };
-                }
+            if frame < frames.len() && FrameWord::names(frames[frame], slot, shared, number) {
+                GranuleState::Frame { shared, frame }
+            } else {
+                GranuleState::Damaged
             }
-            GranuleState::Damaged
         }
     }
 }
 
-// A granule compared with one that is private or shared, as told: by the frame in its map word, and by whether that frame's word names the
-// granule back.
+// The frame of a granule that is private or shared, as told; of no other granule, nor of one whose frame's word doesn't name it back.
 pub fn compare_frame(
     frames: &[u32],
     slot: usize,
     granule: Granule,
     word: u32,
     shared: bool,
-) -> Comparison
+) -> Option<usize>
     ensures { result ≡ frame_compared shared (granule_state frames.now slot granule.0 (map_word_of word)) }
 {
     let number = granule.0 as usize;
     let frame = MapWord::frame_in(word, shared);
-    if MapWord::nameable(frames.len()) <= frame {
-        return Comparison::Differs;
+    if frame < MapWord::nameable(frames.len())
+        && FrameWord::names(frames[frame], slot, shared, number)
+    {
+        Some(frame)
+    } else {
+        None
     }
-    if FrameWord::names(frames[frame], slot, shared, number) {
-        return Comparison::Frame(frame);
-    }
-    Comparison::Differs
 }
 
 // The pair test from the map: what this granule of this slot holds. No granule, no slot: damaged.
@@ -163,36 +117,28 @@ pub fn pair_of(map: &[u32], frames: &[u32], frame: u64) -> FrameState
     ensures { result ≡ pair_of frames.now map.now frame }
 {
     let number = frame as usize;
-    if number < frames.len() {
-        match FrameWord::from(frames[number]) {
-            FrameWord::Host => FrameState::Host,
-            FrameWord::Waiting => FrameState::Waiting,
-            FrameWord::Damaged => FrameState::Damaged,
-            FrameWord::Owned {
-                slot,
-                shared,
-                granule,
-            } => owner_state(map, number, slot, shared, granule),
-        }
-    } else {
-        FrameState::Damaged
+    if frames.len() <= number {
+        return FrameState::Damaged;
     }
-}
-
-// Whose a frame is that names an owner, one of the eight slots as every owner in a word is: does the owner's granule name it back?
-fn owner_state(map: &[u32], frame: usize, slot: usize, shared: bool, granule: usize) -> FrameState
-    requires { slot < 8 }
-    ensures { result ≡ frame_state map.now frame (OwnedWord slot shared granule) }
-{
-    let words = row(map, slot as u64);
-    if granule < words.len() {
-        if MapWord::names(words[granule], shared, frame) {
-            return FrameState::Owned {
-                slot,
-                shared,
-                granule,
-            };
+    match FrameWord::from(frames[number]) {
+        FrameWord::Host => FrameState::Host,
+        FrameWord::Waiting => FrameState::Waiting,
+        FrameWord::Damaged => FrameState::Damaged,
+        FrameWord::Owned {
+            slot,
+            shared,
+            granule,
+        } => {
+            let words = row(map, slot as u64);
+            if granule < words.len() && MapWord::names(words[granule], shared, number) {
+                FrameState::Owned {
+                    slot,
+                    shared,
+                    granule,
+                }
+            } else {
+                FrameState::Damaged
+            }
         }
     }
-    FrameState::Damaged
 }

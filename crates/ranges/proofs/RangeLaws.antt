@@ -1,30 +1,25 @@
 -- The loop of a range: the granules so far are done, and the next is done too or ends the range.
 use mathlib.Core.Path.{◌≡◌, refl, sym, ap, ◌∙◌}
-use mathlib.Core.Bool.{cond}
 use mathlib.Core.List.{List}
-use Prim.Native.Nat.{ℕ, suc, ◌+◌, ◌-◌, ◌<◌, ◌≤◌}
+use Prim.Native.Nat.{ℕ, suc, ◌+◌, ◌-◌, ◌<◌, ◌≤◌, max}
 use native.Mathlib.Nat.{add-zero}
 use native.Mathlib.Decide.{dec_lt}
-use native.Mathlib.Numerals.{add-one}
 use native.Mathlib.Omega.{arith}
-use borrow.Author.Tests.{lt-ltb, le-ltb}
-use lib.Dec.{ltb}
 use lib.ListN.{length}
+use Rattle.std.specs.Prelude.{Ok, Err}
 use Rattle.runs.specs.Run.{Step, took, refuses, complete, refused, ended, after, onward, run}
 use Rattle.runs.proofs.Runs.{joins}
 use Rattle.granules.proofs.StepLaws.{beyond_row}
 use Rattle.granules.specs.Step.{Place, place, Refusal, is_damaged, not_done, row_step, stop_by, one_end}
 use Rattle.granules.specs.declared.kinds.Operation.{Operation}
-use Rattle.granules.specs.declared.step.Outcome.{Outcome}
-use Rattle.granules.specs.declared.step.Outcome.TheVariants as outcome
+use Rattle.granules.specs.declared.step.StepError.{StepError}
+use Rattle.granules.specs.declared.step.StepError.TheVariants.{NotDone, Damaged}
 
--- the granules of slot v from g up to n are done, at most `limit`, and the words stand as here
-pub record Going (o : Operation) (v : ℕ) (row₀ frames₀ : List ℕ) (g limit : ℕ) (row frames : List ℕ) (n : ℕ) : Type 0 where
-  pub upward : g ≤ n
-  pub few : n - g ≤ limit
+-- d granules of slot v from g on are done, all in the row, and the words stand as here
+pub record Going (o : Operation) (v : ℕ) (row₀ frames₀ : List ℕ) (g : ℕ) (row frames : List ℕ) (d : ℕ) : Type 0 where
   pub rows : length row ≡ length row₀
-  pub frame_words : length frames ≡ length frames₀
-  pub so : run (row_step o v (length row₀)) (n - g) (place row₀ frames₀ g) ≡ ended (n - g) (place row frames n) complete
+  pub inside : g + d ≤ max g (length row)
+  pub so : run (row_step o v (length row₀)) d (place row₀ frames₀ g) ≡ ended d (place row frames (g + d)) complete
 
 -- a step that ends at once ends every run that it begins
 ends_all : (step : Place → Step Place Refusal) (n : ℕ) (s t : Place) (r : Refusal) → run step 1 s ≡ ended 0 t (refused r) → run step (suc n) s ≡ ended 0 t (refused r)
@@ -34,46 +29,44 @@ ends_all step n s t r e = on (step s) e
     on (took u) e = let z : ◌≡◌ {A = ℕ} 1 0 = cc in absurd (omega arith)
     on (refuses q) e = e
 
-module _ {o : Operation} {v : ℕ} {row₀ frames₀ : List ℕ} {g limit : ℕ} where
-  pub begun : Going o v row₀ frames₀ g limit row₀ frames₀ g
-  begun = let none : g - g ≡ 0 = omega arith in record { upward = omega arith; few = omega arith; rows = refl; frame_words = refl; so = rw none }
+-- a granule that is done is in the row
+done_inside : (o : Operation) (v : ℕ) (row frames row' frames' : List ℕ) (n : ℕ) → run (row_step o v (length row)) 1 (place row frames n) ≡ one_end (Ok tt) row' frames' n → n < length row
+done_inside o v row frames row' frames' n e = go (dec_lt n (length row))
+  where
+    go : Dec (n < length row) → n < length row
+    go (yes h) = h
+    go (no q) = let z : ◌≡◌ {A = ℕ} 1 0 = cc (beyond_row o v n row frames (omega arith)) in absurd (omega arith)
 
-  module _ {row frames : List ℕ} {n : ℕ} (i : Going o v row₀ frames₀ g limit row frames n) where
+module _ {o : Operation} {v : ℕ} {row₀ frames₀ : List ℕ} {g : ℕ} where
+  pub begun : Going o v row₀ frames₀ g row₀ frames₀ 0
+  begun = record { rows = refl; inside = omega arith; so = rw add-zero }
+
+  module _ {row frames : List ℕ} {d : ℕ} (i : Going o v row₀ frames₀ g row frames d) where
     -- the granules so far, and what is left of the run
-    left : (m : ℕ) → run (row_step o v (length row₀)) (n - g + m) (place row₀ frames₀ g) ≡ after (n - g) (run (row_step o v (length row)) m (place row frames n))
-    left m = rw i.rows (sym (joins (row_step o v (length row₀)) (n - g) m (place row₀ frames₀ g)) ∙ rw i.so)
+    left : (m : ℕ) → run (row_step o v (length row₀)) (d + m) (place row₀ frames₀ g) ≡ after d (run (row_step o v (length row)) m (place row frames (g + d)))
+    left m = rw i.rows (sym (joins (row_step o v (length row₀)) d m (place row₀ frames₀ g)) ∙ rw i.so)
 
-    module _ (h : n - g < limit) {row' frames' : List ℕ} where
-      pub more : run (row_step o v (length row)) 1 (place row frames n) ≡ one_end outcome.Done row' frames' n → length row' ≡ length row → length frames' ≡ length frames
-          → Going o v row₀ frames₀ g limit row' frames' (n + 1)
-      more e hr hf =
-          let one : n + 1 - g ≡ n - g + 1 = omega (arith, i.upward) in
-          record { upward = omega (arith, i.upward); few = omega arith; rows = hr ∙ i.rows; frame_words = hf ∙ i.frame_words; so = rw one (left 1 ∙ rw (e, add-one (n - g), add-one n)) }
+    module _ {row' frames' : List ℕ} where
+      pub more : run (row_step o v (length row)) 1 (place row frames (g + d)) ≡ one_end (Ok tt) row' frames' (g + d) → length row' ≡ length row
+          → Going o v row₀ frames₀ g row' frames' (d + 1)
+      more e hr =
+          let here : g + d < length row = done_inside o v row frames row' frames' (g + d) e in
+          let next : suc (g + d) ≡ g + (d + 1) = omega arith in
+          record { rows = hr ∙ i.rows; inside = omega (arith, hr); so = left 1 ∙ rw (e, next) }
 
-      halted : (r : Refusal) → run (row_step o v (length row)) 1 (place row frames n) ≡ ended 0 (place row' frames' n) (refused r)
-          → run (row_step o v (length row₀)) limit (place row₀ frames₀ g) ≡ ended (n - g) (place row' frames' n) (refused r)
-      halted r e =
-          let m = limit - (n - g + 1) in
-          let whole : limit ≡ n - g + suc m = omega arith in
-          rw whole (left (suc m) ∙ ap (after (n - g)) (ends_all (row_step o v (length row)) m (place row frames n) (place row' frames' n) r e) ∙ rw add-zero)
+      halted : (r : Refusal) (limit : ℕ) → d < limit → run (row_step o v (length row)) 1 (place row frames (g + d)) ≡ ended 0 (place row' frames' (g + d)) (refused r)
+          → run (row_step o v (length row₀)) limit (place row₀ frames₀ g) ≡ ended d (place row' frames' (g + d)) (refused r)
+      halted r limit h e =
+          let m = limit - (d + 1) in
+          let whole : limit ≡ d + suc m = omega arith in
+          rw whole (left (suc m) ∙ ap (after d) (ends_all (row_step o v (length row)) m (place row frames (g + d)) (place row' frames' (g + d)) r e) ∙ rw add-zero)
 
-      halted_by : (r : Outcome) → (r ≡ outcome.Done → ⊥) → run (row_step o v (length row)) 1 (place row frames n) ≡ one_end r row' frames' n
-          → run (row_step o v (length row₀)) limit (place row₀ frames₀ g) ≡ ended (n - g) (place row' frames' n) (stop_by r)
-      halted_by outcome.Done q e = absurd (q refl)
-      halted_by outcome.Refused q e = halted not_done e
-      halted_by outcome.Damaged q e = halted is_damaged e
+      -- the next granule can't be done
+      pub refused_there : (r : StepError) (limit : ℕ) → d < limit → run (row_step o v (length row)) 1 (place row frames (g + d)) ≡ one_end (Err r) row' frames' (g + d)
+          → run (row_step o v (length row₀)) limit (place row₀ frames₀ g) ≡ ended d (place row' frames' (g + d)) (stop_by (Err r))
+      refused_there NotDone limit h e = halted not_done limit h e
+      refused_there Damaged limit h e = halted is_damaged limit h e
 
-      -- d granules are done, and the next is refused
-      pub refused_there : (d : ℕ) → d ≡ n - g → (r : Outcome) → (r ≡ outcome.Done → ⊥) → run (row_step o v (length row)) 1 (place row frames n) ≡ one_end r row' frames' n
-          → run (row_step o v (length row₀)) limit (place row₀ frames₀ g) ≡ ended d (place row' frames' (g + d)) (stop_by r)
-      refused_there d same r q e = let there : g + d ≡ n = omega (arith, i.upward) in rw (there, same) (halted_by r q e)
-
-    -- d granules are done, and it came to the limit or to the row's end
-    pub ran : (d : ℕ) → d ≡ n - g → (n - g < limit → length row ≤ n) → run (row_step o v (length row₀)) limit (place row₀ frames₀ g)
-        ≡ ended d (place row frames (g + d)) (stop_by (cond (ltb d limit) outcome.Refused outcome.Done))
-    ran d same b = let there : g + d ≡ n = omega (arith, i.upward) in rw (there, same) (go (dec_lt (n - g) limit))
-      where
-        go : Dec (n - g < limit) → run (row_step o v (length row₀)) limit (place row₀ frames₀ g)
-            ≡ ended (n - g) (place row frames n) (stop_by (cond (ltb (n - g) limit) outcome.Refused outcome.Done))
-        go (yes h) = rw (lt-ltb (n - g) limit h) (halted h not_done (beyond_row o v n row frames (b h)))
-        go (no q) = let all : limit ≡ n - g = omega (arith, i.few) in rw (le-ltb (n - g) limit (omega arith), all) i.so
+    -- it came to the limit
+    pub all_done : (limit : ℕ) → d ≡ limit → run (row_step o v (length row₀)) limit (place row₀ frames₀ g) ≡ ended limit (place row frames (g + limit)) complete
+    all_done limit e = rw (← e) i.so

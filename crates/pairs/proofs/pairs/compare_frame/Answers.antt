@@ -2,12 +2,15 @@
 use mathlib.Core.Bool.{true, false}
 use Rattle.pairs.proofs.ComparisonLaws.{compared_beyond, compared_named}
 use Rattle.pairs.proofs.pairs.compare_frame.Goals as goal
-
-pub returns-then-nameable-frame : goal.returns-then-nameable-frame
-returns-then-nameable-frame c = compared_beyond _ _ _ _ _ _ c.frame_in-frame.ensures (rw c.nameable.ensures at c.if-nameable-frame.true)
+use Rattle.pairs.proofs.pairs.compare_frame.Goals.{else-frame-nameable-via-then-frame-nameable+else-names, else-frame-nameable-via-else-frame-nameable}
 
 pub returns-then-names : goal.returns-then-names
-returns-then-names c = compared_named _ _ _ _ _ _ c.frame_in-frame.ensures (rw c.nameable.ensures at c.if-nameable-frame.false) _ true c.names.ensures c.if-names.true
+returns-then-names c = compared_named _ _ _ _ _ _ c.frame_in-frame.ensures (rw c.nameable.ensures at c.if-frame-nameable.true) _ true c.names.ensures c.if-names.true
 
-pub returns : goal.returns
-returns c = compared_named _ _ _ _ _ _ c.frame_in-frame.ensures (rw c.nameable.ensures at c.if-nameable-frame.false) _ false c.names.ensures c.if-names.false
+pub returns-else-frame-nameable : goal.returns-else-frame-nameable
+returns-else-frame-nameable c =
+    let within = c.nameable.ensures in
+    elim c.else-frame-nameable.branch [
+      | else-frame-nameable-via-then-frame-nameable+else-names w ↦ compared_named _ _ _ _ _ _ c.frame_in-frame.ensures (rw within at w.if-frame-nameable.true) _ false w.names.ensures w.if-names.false
+      | else-frame-nameable-via-else-frame-nameable w ↦ compared_beyond _ _ _ _ _ _ c.frame_in-frame.ensures (rw within at w.if-frame-nameable.false)
+    ]

@@ -2,6 +2,7 @@
 use Rattle.pairs.proofs.PairLaws.{frame_beyond, frame_tested}
 use Rattle.pairs.specs.Pair.{granule_state}
 use Rattle.pairs.proofs.pairs.granule_state.Goals as goal
+use Rattle.pairs.proofs.pairs.granule_state.Goals.{else-frame-frames-via-then-frame-frames+else-names, else-frame-frames-via-else-frame-frames}
 
 pub returns-then-names : goal.returns-then-names
 returns-then-names c =
@@ -20,12 +21,10 @@ pub returns-in-Damaged : goal.returns-in-Damaged
 unfolding granule_state
 returns-in-Damaged c = rw (← c.from.ensures, c.in-Damaged.is)
 
-pub returns-else-names : goal.returns-else-names
-returns-else-names c =
-    rw (← c.from.ensures, c.in-Frame.is)
-    (frame_tested _ _ _ _ _ c.if-frame-frames.true _ _ c.names.ensures c.if-names.false)
-
 pub returns-else-frame-frames : goal.returns-else-frame-frames
 returns-else-frame-frames c =
     rw (← c.from.ensures, c.in-Frame.is)
-    (frame_beyond _ _ _ _ _ c.if-frame-frames.false)
+    (elim c.else-frame-frames.branch [
+      | else-frame-frames-via-then-frame-frames+else-names w ↦ frame_tested _ _ _ _ _ w.if-frame-frames.true _ _ w.names.ensures w.if-names.false
+      | else-frame-frames-via-else-frame-frames w ↦ frame_beyond _ _ _ _ _ w.if-frame-frames.false
+    ])
