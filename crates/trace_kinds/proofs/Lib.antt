@@ -1,2 +1,1 @@
 pub mod RecordKindLaws
-pub mod ByteLaws

@@ -1,13 +1,12 @@
 -- Document 01, "Trace program": "Kinds (arguments)", with "2 bytes length of the rest, version byte 1, kind byte, slot byte, then 8-byte arguments".
 -- Document 02, Wish 1: "Create gets a second kind (trace kind 11, read as kind 1 is)".
-use Rattle.std.specs.Prelude.{Bool, true, false, ◌&&◌, ◌||◌, List, [], ◌∷◌, map, ℕ, ◌+◌, ◌*◌, eqb, get_or}
+use Rattle.std.specs.Prelude.{Bool, true, false, ◌&&◌, List, [], ◌∷◌, map, ℕ, ◌+◌, ◌*◌, eqb, get_or, Option, Some, None}
+use Rattle.std.specs.List.{list_any}
 use Rattle.functions.specs.Rules.{registers}
 use Rattle.calls.specs.declared.call.Call.{Call}
 use Rattle.calls.specs.declared.call.Call.TheVariants as call
 use Rattle.trace_kinds.specs.declared.kinds.RecordKind.{RecordKind}
 use Rattle.trace_kinds.specs.declared.kinds.RecordKind.TheVariants.{Create, Donate, Run, Hypercall, Abort, Remove, Cleared, Access, RegisterRead, RegisterWrite, CreateLegacy}
-use Rattle.trace_kinds.specs.declared.kinds.Found.{Found}
-use Rattle.trace_kinds.specs.declared.kinds.Found.TheVariants.{Known, Unknown}
 
 -- "version byte 1"
 abbrev pub version : ℕ
@@ -18,8 +17,8 @@ abbrev pub kinds : List RecordKind
 kinds =
     Create ∷ Donate ∷ Run ∷ Hypercall ∷ Abort ∷ Remove ∷ Cleared ∷ Access ∷ RegisterRead ∷ RegisterWrite ∷ CreateLegacy ∷ []
 
-unfoldable pub kind_of : ℕ → Found
-kind_of n = get_or (Unknown ∷ map Known kinds) n Unknown
+unfoldable pub kind_of : ℕ → Option RecordKind
+kind_of n = get_or (None ∷ map Some kinds) n None
 
 -- "Kinds (arguments)"
 abbrev pub arguments_of : RecordKind → ℕ
@@ -53,13 +52,9 @@ call_of CreateLegacy slot a b c d = call.Create true
 abbrev pub length_of : RecordKind → ℕ
 length_of k = 3 + 8 * arguments_of k
 
--- whether some kind of a list has a length
-abbrev pub some_of : List RecordKind → ℕ → Bool
-some_of [] n = false
-some_of (k ∷ ks) n = eqb (length_of k) n || some_of ks n
-
+-- whether some kind has a length
 abbrev pub some_length : ℕ → Bool
-some_length n = some_of kinds n
+some_length n = list_any (λ k. eqb (length_of k) n) kinds
 
 -- of fewer than four bytes: those that are there are as a record begins, a byte that is not there yet counts as right
 abbrev pub start_holds : List ℕ → Bool

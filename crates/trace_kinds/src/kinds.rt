@@ -8,7 +8,7 @@ use functions::Registers;
 pub const VERSION: u8 = 1;
 
 // The kinds of records.
-#[derive(Clone, Copy)]
+#[derive(Clone, Copy, Debug, PartialEq, Eq)]
 pub enum RecordKind {
     Create,
     Donate,
@@ -38,27 +38,13 @@ pub(crate) const KINDS: [RecordKind; 11] = [
     RecordKind::CreateLegacy,
 ];
 
-// What a number stands for.
-#[derive(Clone, Copy)]
-pub enum Found {
-    Known(RecordKind),
-    // It belongs to no kind.
-    Unknown,
-}
-
 impl RecordKind {
-    pub fn of(number: u8) -> Found
+    // The kind that a number stands for.
+    pub fn of(number: u8) -> Option<RecordKind>
         ensures { result ≡ kind_of number }
     {
-        let at = number as usize;
-        if 0 < at {
-            if at <= KINDS.len() {
-                let kind = KINDS[at - 1];
-                return Found::Known(kind);
-            }
-            return Found::Unknown;
-        }
-        Found::Unknown
+        let place = usize::from(number).checked_sub(1)?;
+        KINDS.get(place).copied()
     }
 
     // How many arguments a record of this kind has.
@@ -80,7 +66,8 @@ impl RecordKind {
         }
     }
 
-    // What a record of this kind asks for, by the slot byte and the arguments.
+    // What a record of this kind asks for, by the slot byte and the arguments. They stand apart as in `call_of`: of an array, each would need
+    // its place in the clause too.
     pub fn call(self, slot: u64, a: u64, b: u64, c: u64, d: u64) -> Call
         ensures { result ≡ call_of self slot a b c d }
     {
@@ -119,6 +106,6 @@ impl RecordKind {
     pub fn length(self) -> usize
         ensures { result ≡ length_of self }
     {
-        3 + 8 * (self.arguments() as usize)
+        3 + 8 * usize::from(self.arguments())
     }
 }

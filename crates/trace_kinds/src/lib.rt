@@ -5,5 +5,5 @@
 mod kinds;
 mod starts;
 
-pub use kinds::{Found, RecordKind, VERSION};
+pub use kinds::{RecordKind, VERSION};
 pub use starts::start_holds;

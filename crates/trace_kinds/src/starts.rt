@@ -7,34 +7,22 @@ use crate::kinds::{KINDS, RecordKind, VERSION};
 fn byte_or(s: &[u8], at: usize, other: usize) -> usize
     ensures { result ≡ get_or s.now at other }
 {
-    if at < s.len() { s[at] as usize } else { other }
+    s.get(at).map_or(other, |byte| usize::from(*byte))
 }
 
 // Whether some kind has this length.
 fn some_length(length: usize) -> bool
     ensures { result ≡ some_length length }
 {
-    let mut i: usize = 0;
-    while i < KINDS.len() {
-        let kind = KINDS[i];
-        if kind.length() == length {
-            return true;
-        }
-        i += 1;
-    }
-    false
+    KINDS.iter().any(|kind| kind.length() == length)
 }
 
 // Whether fewer than four bytes are those that a record begins with.
 pub fn start_holds(s: &[u8]) -> bool
     ensures { result ≡ start_holds s.now }
 {
-    let version = VERSION as usize;
-    if byte_or(s, 0, 0) == 0 {
-        if some_length(byte_or(s, 1, RecordKind::Create.length())) {
-            return byte_or(s, 2, version) == version;
-        }
-        return false;
-    }
-    false
+    let version = usize::from(VERSION);
+    byte_or(s, 0, 0) == 0
+        && some_length(byte_or(s, 1, RecordKind::Create.length()))
+        && byte_or(s, 2, version) == version
 }

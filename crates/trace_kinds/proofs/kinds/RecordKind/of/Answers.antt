@@ -1,20 +1,16 @@
 -- A number from 1 to that of the last kind is a place in the list; the others are none.
-use mathlib.Core.Path.{◌≡◌, sym}
-use native.Mathlib.Omega.{arith}
-use lib.ListN.{get_or-eq_default}
-use mathlib.Core.List.{map, ◌∷◌}
+use Rattle.std.proofs.Common.{rules, ◌≡◌, arith, ◌∙◌, sym, slice_get}
 use Rattle.trace_kinds.specs.RecordKind.{kinds, kind_of}
-use Rattle.trace_kinds.specs.declared.kinds.Found.TheVariants.{Known, Unknown}
-use Rattle.trace_kinds.proofs.RecordKindLaws.{numbered}
+use Rattle.trace_kinds.proofs.RecordKindLaws.{kind_placed}
 use Rattle.trace_kinds.proofs.kinds.RecordKind.of.Goals as goal
 
-pub returns-then-at-le11 : goal.returns-then-at-le11
-returns-then-at-le11 c = sym (numbered c.args.number _ c.if-at-gt0.true c.if-at-le11.true)
-
-pub returns-then-at-gt0 : goal.returns-then-at-gt0
+pub returns-in_err-place : goal.returns-in_err-place
 unfolding kind_of
-returns-then-at-gt0 c = sym (get_or-eq_default (Unknown ∷ map Known kinds) Unknown c.if-at-le11.false)
+returns-in_err-place c =
+    let none : c.args.number ≡ 0 = grind (arith, c.in_err-place.ensures, c.from.ensures) in
+    rw none c.from_residual.ensures
 
 pub returns : goal.returns
-unfolding kind_of
-returns c = let none : c.args.number ≡ 0 = omega arith in rw none
+returns c =
+    let at : c.copied.result ≡ slice_get kinds c.in_ok-place.place = search rules in
+    at ∙ sym (kind_placed c.args.number c.in_ok-place.place (omega (arith, c.in_ok-place.ensures, c.from.ensures)))
