@@ -10,11 +10,9 @@ use lib.ListN.{length, get_or}
 use Rattle.words.proofs.Booleans.{both_true, false_unless}
 use Rattle.calls.specs.declared.call.Call.{Call}
 use Rattle.trace_kinds.specs.declared.kinds.RecordKind.{RecordKind}
-use Rattle.trace_kinds.specs.declared.kinds.Found.{Found}
-use Rattle.trace_kinds.specs.declared.kinds.Found.TheVariants.{Known, Unknown}
-use Rattle.trace_records.specs.declared.decoding.Decoded.TheVariants.{Bad, Unfinished}
+use Rattle.std.specs.Prelude.{Option, Some, None}
 use Rattle.trace_kinds.specs.RecordKind.{version, kind_of, length_of, some_length, start_holds}
-use Rattle.trace_records.specs.Record.{big_endian, asked_in, record_in, decode_of}
+use Rattle.trace_records.specs.Record.{bad_record, unfinished, big_endian, asked_in, record_in, decode_of}
 use Rattle.trace_kinds.proofs.RecordKindLaws.{length_at_most, length_some}
 use Rattle.trace_records.proofs.DecodeLaws.{header, by_header, Seen, few, enough, seen, by_start, four}
 
@@ -31,7 +29,7 @@ began (a ∷ b ∷ []) t h =
 began (a ∷ b ∷ v ∷ s) t h = h
 
 -- a header of a kind begins a record
-header_begins : (a b v k : ℕ) (s : List ℕ) (x : RecordKind) → kind_of k ≡ Known x → header a b v (length_of x) ≡ true → start_holds (a ∷ b ∷ v ∷ k ∷ s) ≡ true
+header_begins : (a b v k : ℕ) (s : List ℕ) (x : RecordKind) → kind_of k ≡ Some x → header a b v (length_of x) ≡ true → start_holds (a ∷ b ∷ v ∷ k ∷ s) ≡ true
 header_begins a b v k s x e h =
     let p = both_true (eqb (big_endian (a ∷ b ∷ [])) (length_of x)) (eqb v version) h in
     let same = eqb-true (big_endian (a ∷ b ∷ [])) (length_of x) p.0 in
@@ -39,36 +37,36 @@ header_begins a b v k s x e h =
     rw (eq-eqb a 0 (omega (arith, length_at_most k x e)), low, length_some k x e, p.1)
 
 -- bytes that no record begins with are bad
-no_header : (f : Found) (a b v k : ℕ) (s : List ℕ) → kind_of k ≡ f → start_holds (a ∷ b ∷ v ∷ k ∷ s) ≡ false → record_in f (a ∷ b ∷ v ∷ k ∷ s) ≡ Bad
-no_header Unknown a b v k s e h = refl
-no_header (Known x) a b v k s e h = rw (false_unless (header a b v (length_of x)) (λ g. no h (header_begins a b v k s x e g)))
+no_header : (f : Option RecordKind) (a b v k : ℕ) (s : List ℕ) → kind_of k ≡ f → start_holds (a ∷ b ∷ v ∷ k ∷ s) ≡ false → record_in f (a ∷ b ∷ v ∷ k ∷ s) ≡ bad_record
+no_header None a b v k s e h = refl
+no_header (Some x) a b v k s e h = rw (false_unless (header a b v (length_of x)) (λ g. no h (header_begins a b v k s x e g)))
 
-no_start : {s : List ℕ} → Seen s → start_holds s ≡ false → decode_of s ≡ Bad
+no_start : {s : List ℕ} → Seen s → start_holds s ≡ false → decode_of s ≡ bad_record
 no_start (few s l) h = by_start s l ∙ rw h
 no_start (enough a b v k s) h = four a b v k s ∙ no_header (kind_of k) a b v k s refl h
 
-start_by : (holds : Bool) → cond holds Unfinished Bad ≡ Bad → holds ≡ false
+start_by : (holds : Bool) → cond holds unfinished bad_record ≡ bad_record → holds ≡ false
 start_by true h = let z : ◌≡◌ {A = ℕ} 0 1 = cc in absurd (omega arith)
 start_by false h = refl
 
-header_by : (holds short : Bool) (c : Call) (n : ℕ) → by_header holds short c n ≡ Bad → holds ≡ false
+header_by : (holds short : Bool) (c : Call) (n : ℕ) → by_header holds short c n ≡ bad_record → holds ≡ false
 header_by true true c n h = let z : ◌≡◌ {A = ℕ} 0 1 = cc in absurd (omega arith)
 header_by true false c n h = let z : ◌≡◌ {A = ℕ} 0 1 = cc in absurd (omega arith)
 header_by false short c n h = refl
 
 -- a header does not hang on what follows it
-header_stays : (f : Found) (a b v k : ℕ) (s t : List ℕ) → record_in f (a ∷ b ∷ v ∷ k ∷ s) ≡ Bad → record_in f (a ∷ b ∷ v ∷ k ∷ s ++ t) ≡ Bad
-header_stays Unknown a b v k s t h = refl
-header_stays (Known x) a b v k s t h =
+header_stays : (f : Option RecordKind) (a b v k : ℕ) (s t : List ℕ) → record_in f (a ∷ b ∷ v ∷ k ∷ s) ≡ bad_record → record_in f (a ∷ b ∷ v ∷ k ∷ s ++ t) ≡ bad_record
+header_stays None a b v k s t h = refl
+header_stays (Some x) a b v k s t h =
     let bytes = a ∷ b ∷ v ∷ k ∷ s in
     rw (header_by (header a b v (length_of x)) (ltb (length bytes) (2 + length_of x)) (asked_in x bytes) (2 + length_of x) h)
 
-stays : {s : List ℕ} → Seen s → (t : List ℕ) → decode_of s ≡ Bad → decode_of (s ++ t) ≡ Bad
+stays : {s : List ℕ} → Seen s → (t : List ℕ) → decode_of s ≡ bad_record → decode_of (s ++ t) ≡ bad_record
 stays (few s l) t h =
     let none = start_by (start_holds s) (sym (by_start s l) ∙ h) in
     no_start (seen (s ++ t)) (false_unless (start_holds (s ++ t)) (λ g. no none (began s t g)))
 stays (enough a b v k s) t h = four a b v k (s ++ t) ∙ header_stays (kind_of k) a b v k s t (sym (four a b v k s) ∙ h)
 
 -- what is bad stays bad
-pub bad_stays : (s t : List ℕ) → decode_of s ≡ Bad → decode_of (s ++ t) ≡ Bad
+pub bad_stays : (s t : List ℕ) → decode_of s ≡ bad_record → decode_of (s ++ t) ≡ bad_record
 bad_stays s t h = stays (seen s) t h

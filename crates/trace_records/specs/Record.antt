@@ -1,13 +1,11 @@
 -- Document 01, "Trace program": "Input is records: 2 bytes length of the rest, version byte 1, kind byte, slot byte, then 8-byte arguments,
 -- all big-endian."
-use Rattle.std.specs.Prelude.{Bool, cond, ◌&&◌, List, [], ◌∷◌, ℕ, ◌+◌, ◌*◌, eqb, ltb, length, get_or, take, drop}
+use Rattle.std.specs.Prelude.{Bool, cond, ◌&&◌, List, [], ◌∷◌, ℕ, ◌+◌, ◌*◌, eqb, ltb, length, get_or, take, drop, Option, Some, None, Result, Ok, Err}
 use Rattle.calls.specs.declared.call.Call.{Call}
 use Rattle.trace_kinds.specs.RecordKind.{version, kind_of, arguments_of, call_of, length_of, start_holds}
 use Rattle.trace_kinds.specs.declared.kinds.RecordKind.{RecordKind}
-use Rattle.trace_kinds.specs.declared.kinds.Found.{Found}
-use Rattle.trace_kinds.specs.declared.kinds.Found.TheVariants.{Known, Unknown}
-use Rattle.trace_records.specs.declared.decoding.Decoded.{Decoded}
-use Rattle.trace_records.specs.declared.decoding.Decoded.TheVariants as decoded
+use Rattle.trace_records.specs.declared.decoding.Record.{Record}
+use Rattle.trace_records.specs.declared.decoding.BadRecord.{BadRecord}
 
 -- "all big-endian": the number of some bytes behind n
 abbrev pub value_behind : ℕ → List ℕ → ℕ
@@ -24,7 +22,7 @@ length_in s = big_endian (take 2 s)
 abbrev pub version_in : List ℕ → ℕ
 version_in s = get_or s 2 0
 
-abbrev pub kind_in : List ℕ → Found
+abbrev pub kind_in : List ℕ → Option RecordKind
 kind_in s = kind_of (get_or s 3 0)
 
 abbrev pub slot_in : List ℕ → ℕ
@@ -44,18 +42,31 @@ asked_in k s =
 abbrev pub header_holds : List ℕ → ℕ → Bool
 header_holds s n = eqb (length_in s) n && eqb (version_in s) version
 
+-- what the first bytes of a log can be: a good record, which asks for a call, and behind which the next begins; the beginning of one; or bad
+abbrev pub Decoded : Type 0
+Decoded = Result (Option Record) BadRecord
+
+abbrev pub good_record : Call → ℕ → Decoded
+good_record c n = Ok (Some (record { call = c; size = n }))
+
+abbrev pub unfinished : Decoded
+unfinished = Ok None
+
+abbrev pub bad_record : Decoded
+bad_record = Err (record {})
+
 -- four bytes or more, by the kind found in them: a good record has a call, and the next begins behind it
-abbrev pub record_in : Found → List ℕ → Decoded
-record_in Unknown s = decoded.Bad
-record_in (Known k) s =
+abbrev pub record_in : Option RecordKind → List ℕ → Decoded
+record_in None s = bad_record
+record_in (Some k) s =
     let size = 2 + length_of k in
     cond (header_holds s (length_of k))
-    (cond (ltb (length s) size) decoded.Unfinished (decoded.Record (asked_in k s) size))
-    decoded.Bad
+    (cond (ltb (length s) size) unfinished (good_record (asked_in k s) size))
+    bad_record
 
 -- what the first bytes of a log are: bad as soon as no bytes that follow make them a good record, unfinished while some do
 unfoldable pub decode_of : List ℕ → Decoded
 decode_of s =
     cond (ltb (length s) 4)
-    (cond (start_holds s) decoded.Unfinished decoded.Bad)
+    (cond (start_holds s) unfinished bad_record)
     (record_in (kind_in s) s)

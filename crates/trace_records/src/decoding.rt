@@ -4,42 +4,43 @@ ghost use Rattle.trace_records.specs.Record.{asked_in, decode_of};
 
 use crate::fields::{argument, header_holds, slot};
 use calls::Call;
-use trace_kinds::{Found, RecordKind, start_holds};
+use trace_kinds::{RecordKind, start_holds};
 
-// What the first bytes of a log are.
+// A good record: what it asks for, and where the next record begins.
 #[derive(Clone, Copy)]
-pub enum Decoded {
-    // A good record: what it asks for, and where the next record begins.
-    Record(Call, usize),
-    // No bytes that follow can make them a good record.
-    Bad,
-    // The beginning of a good record.
-    Unfinished,
+pub struct Record {
+    pub call: Call,
+    pub size: usize,
 }
 
-// The first record of some bytes, any bytes.
-pub fn decode(s: &[u8]) -> Decoded
+// No bytes that follow can make the bytes a good record.
+#[derive(Clone, Copy, Debug, PartialEq, Eq)]
+pub struct BadRecord;
+
+// The first record of some bytes, any bytes. There is none yet where they are the beginning of a good record.
+pub fn decode(s: &[u8]) -> Result<Option<Record>, BadRecord>
     ensures { result ≡ decode_of s.now }
 {
     if s.len() < 4 {
-        if start_holds(s) {
-            return Decoded::Unfinished;
-        }
-        return Decoded::Bad;
+        return if start_holds(s) {
+            Ok(None)
+        } else {
+            Err(BadRecord)
+        };
     }
-    let found = RecordKind::of(s[3]);
-    let Found::Known(kind) = found else {
-        return Decoded::Bad;
-    };
+    let kind = RecordKind::of(s[3]).ok_or(BadRecord)?;
     let length = kind.length();
-    if header_holds(s, length) {
-        let size = 2 + length;
-        if s.len() < size {
-            return Decoded::Unfinished;
-        }
-        return Decoded::Record(asked(kind, s), size);
+    if !header_holds(s, length) {
+        return Err(BadRecord);
     }
-    Decoded::Bad
+    let size = 2 + length;
+    if s.len() < size {
+        return Ok(None);
+    }
+    Ok(Some(Record {
+        call: asked(kind, s),
+        size,
+    }))
 }
 
 // What a whole record of a kind asks for.

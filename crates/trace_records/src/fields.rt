@@ -3,22 +3,14 @@ ghost use Rattle.trace_records.specs.Record.{big_endian, slot_in, argument_in, h
 
 use trace_kinds::VERSION;
 
-fn wide(byte: u8) -> u64
-    ensures { result ≡ byte }
-{
-    byte as u64
-}
-
-// The number of at most eight bytes, the most significant first.
+// The number of at most eight bytes, the most significant first. `from_be_bytes` is no plainer: it would take each field as an array.
 fn big_endian(bytes: &[u8]) -> u64
     requires { length bytes.now ≤ 8 }
     ensures { result ≡ big_endian bytes.now }
 {
-    let mut value: u64 = 0;
-    let mut i: usize = 0;
-    while i < bytes.len() {
-        value = value * 256 + wide(bytes[i]);
-        i += 1;
+    let mut value = 0;
+    for byte in bytes {
+        value = value * 256 + u64::from(*byte);
     }
     value
 }
@@ -28,7 +20,7 @@ pub(crate) fn slot(s: &[u8]) -> u64
     requires { 5 ≤ length s.now }
     ensures { result ≡ slot_in s.now }
 {
-    wide(s[4])
+    u64::from(s[4])
 }
 
 // An argument of a record, numbered from 0, by how many it has; one that it does not have counts as 0.
@@ -37,11 +29,11 @@ pub(crate) fn argument(s: &[u8], count: u8, number: u8) -> u64
     ensures { result ≡ argument_in s.now count number }
 {
     if number < count {
-        let start = 5 + 8 * (number as usize);
-        let end = start + 8;
-        return big_endian(&s[start..end]);
+        let start = 5 + 8 * usize::from(number);
+        big_endian(&s[start..start + 8])
+    } else {
+        0
     }
-    0
 }
 
 // Whether the first bytes are those of a record of this length.
@@ -49,8 +41,5 @@ pub(crate) fn header_holds(s: &[u8], expected: usize) -> bool
     requires { 4 ≤ length s.now }
     ensures { result ≡ header_holds s.now expected }
 {
-    if big_endian(&s[0..2]) == expected as u64 {
-        return s[2] == VERSION;
-    }
-    false
+    big_endian(&s[0..2]) == expected as u64 && s[2] == VERSION
 }

@@ -6,4 +6,4 @@
 mod decoding;
 mod fields;
 
-pub use decoding::{Decoded, decode};
+pub use decoding::{BadRecord, Record, decode};
