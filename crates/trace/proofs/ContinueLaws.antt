@@ -1,11 +1,9 @@
 -- After some records of a piece, what is left of it comes to the rest of the outcome; their text has at most 21 bytes for each byte taken.
-use Rattle.std.proofs.Common.{◌≡◌, ℕ, ◌+◌, ◌*◌, ◌≤◌, Bool, true, false, List, [], ◌∷◌, ◌++◌, length, take, drop, refl, ap, ◌∙◌, append_assoc, append-nil, arith, length-drop, drop-drop}
+use Rattle.std.proofs.Common.{Some, None, Ok, Err, ◌≡◌, ℕ, ◌+◌, ◌*◌, ◌≤◌, Bool, true, false, List, [], ◌∷◌, ◌++◌, length, take, drop, refl, ap, ◌∙◌, append_assoc, append-nil, arith, length-drop, drop-drop}
 use lib.Seq.{drop-length}
 use Rattle.answers.specs.Answer.{numbers_of}
 use Rattle.calls.specs.Step.{step}
-use Rattle.trace_records.specs.Record.{decode_of}
-use Rattle.trace_records.specs.declared.decoding.Decoded.{Decoded}
-use Rattle.trace_records.specs.declared.decoding.Decoded.TheVariants.{Record, Bad, Unfinished}
+use Rattle.trace_records.specs.Record.{Decoded, decode_of}
 use Rattle.trace_records.proofs.DecodeLaws.{record_size}
 use Rattle.trace_lines.proofs.LineLaws.{line_length}
 use Rattle.trace_lines.specs.declared.lines.Line.TheVariants.{Answer}
@@ -46,10 +44,10 @@ advance_continues start r left s before now n p t q h a = rw (a.keeps, a.takes, 
 text_by : (b : Bool) (r : Replay) (s : List ℕ) (d : Decoded) → decode_of s ≡ d → length (unless_stopped b r s d).text ≤ 21 * (unless_stopped b r s d).taken
 unfolding decode_of
 text_by true r s d e = omega arith
-text_by false r s (Record c n) e = omega (arith, (record_size s c n e).0, line_length (Answer (numbers_of (step c r.state).answer)))
-text_by false r [] Bad e = let z : ◌≡◌ {A = ℕ} 0 1 = cc in absurd (omega arith)
-text_by false r (x ∷ s) Bad e = omega arith
-text_by false r s Unfinished e = omega arith
+text_by false r s (Ok (Some g)) e = omega (arith, (record_size s g.call g.size e).0, line_length (Answer (numbers_of (step g.call r.state).answer)))
+text_by false r [] (Err b) e = let z : ◌≡◌ {A = ℕ} 0 1 = cc in absurd (omega arith)
+text_by false r (x ∷ s) (Err b) e = omega arith
+text_by false r s (Ok None) e = omega arith
 
 text_length : (r : Replay) (s : List ℕ) → length (advance_of r s).text ≤ 21 * (advance_of r s).taken
 unfolding advance_of

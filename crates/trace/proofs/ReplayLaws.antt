@@ -1,9 +1,7 @@
 -- A replay of some bytes goes on from where it got, whatever bytes follow: good and bad records stay so when more bytes come.
-use Rattle.std.proofs.Common.{◌≡◌, ℕ, zero, suc, ◌+◌, ◌<◌, ◌≤◌, Bool, true, false, List, [], ◌∷◌, ◌++◌, length, drop, sym, refl, ◌∙◌, arith, length-drop}
+use Rattle.std.proofs.Common.{Some, None, Ok, Err, ◌≡◌, ℕ, zero, suc, ◌<◌, ◌≤◌, Bool, true, false, List, [], ◌∷◌, ◌++◌, length, drop, sym, refl, ◌∙◌, arith, length-drop}
 use lib.Seq.{drop-append-le, drop-length}
-use Rattle.trace_records.specs.Record.{decode_of}
-use Rattle.trace_records.specs.declared.decoding.Decoded.{Decoded}
-use Rattle.trace_records.specs.declared.decoding.Decoded.TheVariants.{Record, Bad, Unfinished}
+use Rattle.trace_records.specs.Record.{Decoded, decode_of}
 use Rattle.trace_records.proofs.DecodeLaws.{record_size, record_stays}
 use Rattle.trace_records.proofs.BadLaws.{bad_stays}
 use Rattle.trace.specs.Replay.{Replay, replay, Advance, advance_by, unless_stopped, advance_of, ReplayOutcome, outcome, text_before, read_on, record_by_record, outcome_of}
@@ -18,9 +16,9 @@ took_by : (b : Bool) (r : Replay) (s : List ℕ) (d : Decoded) → decode_of s �
     → ((unless_stopped b r s d).taken ≤ length s)
     × ((unless_stopped b r s d).more ≡ true → 0 < (unless_stopped b r s d).taken)
 took_by true r s d e = (omega arith, λ h. (let z : ◌≡◌ {A = ℕ} 0 1 = cc in absurd (omega arith)))
-took_by false r s (Record c n) e = let size = record_size s c n e in (omega arith, λ h. omega arith)
-took_by false r s Bad e = (omega arith, λ h. (let z : ◌≡◌ {A = ℕ} 0 1 = cc in absurd (omega arith)))
-took_by false r s Unfinished e = (omega arith, λ h. (let z : ◌≡◌ {A = ℕ} 0 1 = cc in absurd (omega arith)))
+took_by false r s (Ok (Some g)) e = let size = record_size s g.call g.size e in (omega arith, λ h. omega arith)
+took_by false r s (Err b) e = (omega arith, λ h. (let z : ◌≡◌ {A = ℕ} 0 1 = cc in absurd (omega arith)))
+took_by false r s (Ok None) e = (omega arith, λ h. (let z : ◌≡◌ {A = ℕ} 0 1 = cc in absurd (omega arith)))
 
 pub took : (r : Replay) (s : List ℕ) → ((advance_of r s).taken ≤ length s) × ((advance_of r s).more ≡ true → 0 < (advance_of r s).taken)
 unfolding advance_of
@@ -79,13 +77,13 @@ advances_by : (r : Replay) (s t : List ℕ) (b : Bool) → r.stopped ≡ b → (
     (outcome_of (unless_stopped b r s d).left (drop (unless_stopped b r s d).taken s ++ t))
 unfolding advance_of
 advances_by r s t true e d q = stopped_outcome r (s ++ t) e ∙ rw (stopped_outcome r (drop (length s) s ++ t) e)
-advances_by r s t false e (Record c n) q =
-    let size = record_size s c n q in
-    one_record r (s ++ t) ∙ rw (e, record_stays s t c n q, drop-append-le n s t size.1)
-advances_by r s t false e Bad q =
+advances_by r s t false e (Ok (Some g)) q =
+    let size = record_size s g.call g.size q in
+    one_record r (s ++ t) ∙ rw (e, record_stays s t g.call g.size q, drop-append-le g.size s t size.1)
+advances_by r s t false e (Err b) q =
     let end = replay r.state r.answered true in
     one_record r (s ++ t) ∙ rw (e, bad_stays s t q, drop-length (s ++ t), stopped_outcome end (drop (length s) s ++ t) refl)
-advances_by r s t false e Unfinished q = refl
+advances_by r s t false e (Ok None) q = refl
 
 -- the bytes at hand come to their first record, and then to what is left of them, whatever follows
 pub outcome_advances : (r : Replay) (s t : List ℕ)

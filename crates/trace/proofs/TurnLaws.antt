@@ -9,8 +9,7 @@ use Rattle.records.specs.declared.monitor.Monitor.{Monitor}
 use Rattle.calls.specs.Step.{command_of, step}
 use Rattle.calls.specs.declared.call.Call.{Call}
 use Rattle.commands.proofs.InPlace.{in_place}
-use Rattle.trace_records.specs.Record.{decode_of}
-use Rattle.trace_records.specs.declared.decoding.Decoded.TheVariants.{Record, Bad, Unfinished}
+use Rattle.trace_records.specs.Record.{good_record, bad_record, unfinished, decode_of}
 use Rattle.trace_lines.specs.Line.{line_text}
 use Rattle.trace_lines.specs.Puts.{Puts}
 use Rattle.trace_lines.specs.declared.lines.Line.TheVariants as line
@@ -31,20 +30,20 @@ going frames map m n b = replay (state frames map m) n b
 
 module _ (frames map : List ℕ) (m : Monitor) (n : ℕ) (s : List ℕ) where
   -- a call, decided on the record g that was read for its slot v
-  module _ (c : Call) (size : ℕ) (e : decode_of s ≡ Record c size) where
+  module _ (c : Call) (size : ℕ) (e : decode_of s ≡ good_record c size) where
     pub turn_record : (v : ℕ) (g : Guest) → v ≡ slot_number (command_of c).slot m → g ≡ get_or m.guests (v % 8) zero_guest → (x : AnsweredRecord) (frames' map' before after : List ℕ) (p : ℕ)
         → Answers (result_of (command_of c) (view frames map v g)) frames' map' before p after x
         → (m' : Monitor) → m' ≡ with_change m v x.change → (k : ℕ) → k ≡ next_count n
         → Advances (advance_of (going frames map m n false) s) (going frames' map' m' k false) before p after size x.put
     turn_record v g is read x frames' map' before after p a m' em k ek =
-        rw (advance_decoded (going frames map m n false) s (Record c size) refl e, ← decided c (state frames map m) v g is read)
+        rw (advance_decoded (going frames map m n false) s (good_record c size) refl e, ← decided c (state frames map m) v g is read)
         (record { keeps = rw (a.frames_left, a.map_left, em, a.changes, ek); takes = refl; puts = a.puts })
 
-  pub turn_bad : decode_of s ≡ Bad → (before after : List ℕ) (p q : ℕ) → Puts before p (line_text line.Bad) after q
+  pub turn_bad : decode_of s ≡ bad_record → (before after : List ℕ) (p q : ℕ) → Puts before p (line_text line.Bad) after q
       → Advances (advance_of (going frames map m n false) s) (going frames map m n true) before p after (length s) q
-  turn_bad e before after p q h = rw (advance_decoded (going frames map m n false) s Bad refl e) (record { keeps = refl; takes = refl; puts = h })
+  turn_bad e before after p q h = rw (advance_decoded (going frames map m n false) s bad_record refl e) (record { keeps = refl; takes = refl; puts = h })
 
   -- the beginning of a record comes to nothing yet
-  pub turn_unfinished : decode_of s ≡ Unfinished → outcome_of (going frames map m n false) s ≡ outcome [] (going frames map m n false) s
+  pub turn_unfinished : decode_of s ≡ unfinished → outcome_of (going frames map m n false) s ≡ outcome [] (going frames map m n false) s
   turn_unfinished e =
-      one_record (going frames map m n false) s ∙ rw (advance_decoded (going frames map m n false) s Unfinished refl e)
+      one_record (going frames map m n false) s ∙ rw (advance_decoded (going frames map m n false) s unfinished refl e)

@@ -1,11 +1,9 @@
 -- Document 01, "Trace program": a replay record by record, and the whole output of a whole log.
-use Rattle.std.specs.Prelude.{ℕ, zero, suc, ◌+◌, ◌%◌, ◌^◌, Bool, true, false, cond, List, [], ◌∷◌, ◌++◌, length, drop, ◌==◌}
+use Rattle.std.specs.Prelude.{ℕ, zero, suc, ◌+◌, ◌%◌, ◌^◌, Bool, true, false, cond, List, [], ◌∷◌, ◌++◌, length, drop, ◌==◌, Some, None, Ok, Err}
 use Rattle.answers.specs.Answer.{numbers_of}
 use Rattle.commands.specs.State.{State}
 use Rattle.calls.specs.Step.{step, fresh_state}
-use Rattle.trace_records.specs.Record.{decode_of}
-use Rattle.trace_records.specs.declared.decoding.Decoded.{Decoded}
-use Rattle.trace_records.specs.declared.decoding.Decoded.TheVariants.{Record, Bad, Unfinished}
+use Rattle.trace_records.specs.Record.{Decoded, decode_of}
 use Rattle.trace_lines.specs.Line.{line_text}
 use Rattle.trace_lines.specs.declared.lines.Line.TheVariants as line
 
@@ -41,12 +39,12 @@ abbrev pub waiting : Replay → Advance
 waiting r = advance r 0 [] false
 
 abbrev pub advance_by : Replay → List ℕ → Decoded → Advance
-advance_by r s (Record c n) =
-    let a = step c r.state in
-    advance (replay a.left (next_count r.answered) false) n (line_text (line.Answer (numbers_of a.answer))) true
+advance_by r s (Ok (Some g)) =
+    let a = step g.call r.state in
+    advance (replay a.left (next_count r.answered) false) g.size (line_text (line.Answer (numbers_of a.answer))) true
 -- "prints `bad` and ends the reading": all bytes are passed over
-advance_by r s Bad = advance (replay r.state r.answered true) (length s) (line_text line.Bad) false
-advance_by r s Unfinished = waiting r
+advance_by r s (Err e) = advance (replay r.state r.answered true) (length s) (line_text line.Bad) false
+advance_by r s (Ok None) = waiting r
 
 -- after a bad record, those that come later are passed over too
 abbrev pub unless_stopped : Bool → Replay → List ℕ → Decoded → Advance

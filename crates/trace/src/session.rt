@@ -10,7 +10,7 @@ use crate::tail::keep;
 use calls::Call;
 use records::{Change, Guest, Monitor};
 use trace_lines::{Line, ROOM};
-use trace_records::{Decoded, decode};
+use trace_records::{BadRecord, Record, decode};
 
 // F, and 8 × W for W = 64.
 pub const FRAMES: usize = 256;
@@ -124,7 +124,7 @@ impl Session {
         let mut put: usize = 0;
         while taken < bytes.len() {
             match decode(&bytes[taken..]) {
-                Decoded::Unfinished => {
+                Ok(None) => {
                     return ReplayProgress {
                         session: Session {
                             monitor,
@@ -135,7 +135,7 @@ impl Session {
                         put,
                     };
                 }
-                Decoded::Bad => {
+                Err(BadRecord) => {
                     return ReplayProgress {
                         session: Session {
                             monitor,
@@ -146,7 +146,7 @@ impl Session {
                         put: Line::Bad.put(out, put),
                     };
                 }
-                Decoded::Record(call, size) => {
+                Ok(Some(Record { call, size })) => {
                     let slot = call.slot(monitor);
                     let at = (slot % 8) as usize;
                     let guest = monitor.guests[at];

@@ -5,9 +5,7 @@ use lib.Seq.{drop-length}
 use Rattle.records.specs.Monitor.{zero_guest}
 use Rattle.records.specs.Change.{with_change}
 use Rattle.commands.proofs.InPlace.{stored_in_place, kept_in_place}
-use Rattle.trace_records.specs.Record.{decode_of}
-use Rattle.trace_records.specs.declared.decoding.Decoded.{Decoded}
-use Rattle.trace_records.specs.declared.decoding.Decoded.TheVariants.{Record}
+use Rattle.trace_records.specs.Record.{Decoded, good_record, decode_of}
 use Rattle.trace_records.proofs.DecodeLaws.{record_size}
 use Rattle.trace_lines.proofs.LineLaws.{put_whole}
 use Rattle.trace_lines.specs.declared.lines.Line.TheVariants.{Bad}
@@ -34,8 +32,8 @@ ahead c = drop c.loop-taken.taken c.args.bytes.now
 abbrev here : After-wrapping_add_u64-answered → Replay
 here c = going c.loop-taken.frames c.loop-taken.map c.loop-taken.monitor c.loop-taken.answered false
 
-good : (c : After-wrapping_add_u64-answered) → decode_of (ahead c) ≡ Record c.in-Record.call c.in-Record.size
-good c = sym (decoded c.args.bytes.now c.loop-taken.taken _ c.decode.ensures) ∙ c.in-Record.is
+good : (c : After-wrapping_add_u64-answered) → decode_of (ahead c) ≡ good_record c.in-Ok-Some.field-0-0.call c.in-Ok-Some.field-0-0.size
+good c = sym (decoded c.args.bytes.now c.loop-taken.taken _ c.decode.ensures) ∙ rw c.in-Ok-Some.field-0-is at c.in-Ok-Some.is
 
 -- its guest's record stored, or none where it stays as it was
 changed_to : (c : After-wrapping_add_u64-answered)
@@ -53,7 +51,7 @@ changed_to c =
 turn : (c : After-wrapping_add_u64-answered)
     → let last = c.answer-step.new in
     Advances (advance_of (here c) (ahead c)) (going last.frames last.map c.if-stores.monitor c.wrapping_add_u64-answered.result false)
-    c.loop-taken.out c.loop-taken.put last.out c.in-Record.size c.answer-step.result.put
+    c.loop-taken.out c.loop-taken.put last.out c.in-Ok-Some.field-0-0.size c.answer-step.result.put
 turn c =
     let l = c.loop-taken in
     turn_record l.frames l.map l.monitor l.answered (ahead c) _ _ (good c) c.slot-slot.result _ c.slot-slot.ensures refl c.answer-step.result _ _ l.out _ l.put
@@ -61,7 +59,7 @@ turn c =
 
 -- how far it got
 got : (c : After-wrapping_add_u64-answered)
-    → let n = c.loop-taken.taken + c.in-Record.size in
+    → let n = c.loop-taken.taken + c.in-Ok-Some.field-0-0.size in
     (n ≤ length c.args.bytes.now) × (c.answer-step.result.put ≤ 21 * n) × (c.loop-taken.taken < n)
 got c =
     let l = c.loop-taken in
@@ -74,26 +72,26 @@ returns-then-self c =
     let bytes = c.args.bytes.now in
     record { comes_to = rw (drop-length bytes) (stopped_outcome start bytes c.if-self.true); within = omega arith; room = omega arith }
 
-pub returns-in-Unfinished : goal.returns-in-Unfinished
-returns-in-Unfinished c =
+pub returns-in-Ok-None : goal.returns-in-Ok-None
+returns-in-Ok-None c =
     let l = c.loop-taken in
     let bytes = c.args.bytes.now in
     let start = going l.frames l.map l.monitor l.answered false in
-    let is = sym (decoded bytes l.taken _ c.decode.ensures) ∙ c.in-Unfinished.is in
+    let is = sym (decoded bytes l.taken _ c.decode.ensures) ∙ rw c.in-Ok-None.field-0-is at c.in-Ok-None.is in
     let none = turn_unfinished l.frames l.map l.monitor l.answered (drop l.taken bytes) is in
     record {
       comes_to = rw c.if-self.false (continues_end _ start bytes _ l.taken l.invariant.0 none);
       within = l.invariant.1;
-      room = omega (arith, fits (goal.at.returns-in-Unfinished c).In-loop-taken);
+      room = omega (arith, fits (goal.at.returns-in-Ok-None c).In-loop-taken);
     }
 
-pub returns-in-Bad : goal.returns-in-Bad
-returns-in-Bad c =
+pub returns-in-Err : goal.returns-in-Err
+returns-in-Err c =
     let l = c.loop-taken in
     let bytes = c.args.bytes.now in
     let start = going l.frames l.map l.monitor l.answered false in
-    let room = fits (goal.at.returns-in-Bad c).In-loop-taken in
-    let is = sym (decoded bytes l.taken _ c.decode.ensures) ∙ c.in-Bad.is in
+    let room = fits (goal.at.returns-in-Err c).In-loop-taken in
+    let is = sym (decoded bytes l.taken _ c.decode.ensures) ∙ c.in-Err.is in
     let puts = put_whole Bad room c.put.ensures in
     let turned = turn_bad l.frames l.map l.monitor l.answered (drop l.taken bytes) is l.out _ l.put _ puts in
     let all : l.taken + length (drop l.taken bytes) ≡ length bytes = simp length-drop (omega (arith, l.invariant.1)) in
