@@ -6,7 +6,7 @@ use records::Guest;
 use words::Granule;
 
 // A guest's registers at a hypercall.
-#[derive(Clone, Copy)]
+#[derive(Clone, Copy, Debug, PartialEq, Eq)]
 pub struct Registers {
     pub r0: u64,
     pub r1: u64,
@@ -15,7 +15,7 @@ pub struct Registers {
 }
 
 // What a call asks of a register.
-#[derive(Clone, Copy)]
+#[derive(Clone, Copy, Debug, PartialEq, Eq)]
 pub enum Rule {
     Any,
     Zero,
@@ -25,7 +25,7 @@ pub enum Rule {
 }
 
 // What a call asks of the caller's record.
-#[derive(Clone, Copy)]
+#[derive(Clone, Copy, Debug, PartialEq, Eq)]
 pub enum Condition {
     Nothing,
     // Bit 0 of VENDOR_HYP.
@@ -34,7 +34,7 @@ pub enum Condition {
 }
 
 // What a call that can't be done answers in R0.
-#[derive(Clone, Copy)]
+#[derive(Clone, Copy, Debug, PartialEq, Eq)]
 pub enum Error {
     // −1
     NotSupported,
@@ -67,11 +67,11 @@ impl Condition {
     }
 }
 
-impl Error {
-    pub fn answer(self) -> Answer
-        ensures { result ≡ error_answer self }
-    {
-        match self {
+impl From<Error> for Answer {
+    ghost from_gives = { λ error answer. answer ≡ error_answer error };
+
+    fn from(error: Error) -> Answer {
+        match error {
             Error::NotSupported => Answer::returned(-1, 0),
             Error::InvalidParameter => Answer::returned(-3, 0),
         }
