@@ -2,6 +2,7 @@ ghost use Rattle.std.specs.Prelude.{◌≡◌};
 ghost use Rattle.commands.specs.Tests.{first_refusal, refusal_by};
 ghost use Rattle.guest_hypercalls.specs.Calls.{row_tests};
 
+use answers::Answer;
 use call_table::CallRow;
 use commands::Admission;
 use functions::Registers;
@@ -14,6 +15,6 @@ pub(crate) fn row_admission(row: CallRow, registers: Registers, guest: Guest) ->
     let error = row.error;
     let condition = row.condition;
     Admission::Passed
-        .check(row.registers_hold(registers), error.answer())
-        .check(condition.permits(guest), error.answer())
+        .check(row.registers_hold(registers), Answer::from(error))
+        .check(condition.permits(guest), Answer::from(error))
 }

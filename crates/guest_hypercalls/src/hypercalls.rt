@@ -68,7 +68,7 @@ fn act(
         ≡ result_by (view frames.old map.old slot guest) (act_of registers error action (view frames.old map.old slot guest)) }
 {
     match action {
-        Action::Refuse => Decision::keep(error.answer()),
+        Action::Refuse => Decision::keep(Answer::from(error)),
         Action::Tell { r0, r1, r2, r3 } => Decision::keep(Answer::Return {
             r0: r0 as i64,
             r1: r1 as u64,

@@ -47,6 +47,6 @@ pub(crate) fn answer_of(progress: Progress, tells: bool, error: Error) -> Answer
     }
     match progress.outcome {
         Err(StepError::Damaged) => Answer::Damaged,
-        Ok(()) | Err(StepError::NotDone) => error.answer(),
+        Ok(()) | Err(StepError::NotDone) => Answer::from(error),
     }
 }

@@ -12,7 +12,7 @@ use Rattle.guest_hypercalls.proofs.hypercalls.act.Goals as goal
 
 pub returns-in-Refuse : goal.returns-in-Refuse
 unfolding act_of
-returns-in-Refuse c = λ guest. rw (c.in-Refuse.is, c.keep.ensures, c.answer.ensures)
+returns-in-Refuse c = λ guest. rw (c.in-Refuse.is, c.keep.ensures, c.from.ensures)
 
 pub returns-in-Tell : goal.returns-in-Tell
 unfolding act_of
