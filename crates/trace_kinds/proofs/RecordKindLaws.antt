@@ -12,7 +12,7 @@ use Rattle.trace_kinds.specs.declared.kinds.RecordKind.{RecordKind}
 use Rattle.trace_kinds.specs.declared.kinds.RecordKind.TheVariants.{Hypercall}
 use Rattle.std.specs.Prelude.{Option, Some, None, slice_get}
 use Rattle.std.specs.List.{list_any, list_all}
-use Rattle.words.proofs.Booleans.{both_true}
+use Rattle.words.proofs.Booleans.{never, both_true}
 
 -- a number and its place in the list
 at_place : (ks : List RecordKind) (i : ℕ) → get_or (map Some ks) i None ≡ slice_get ks i
@@ -26,13 +26,13 @@ kind_placed n i e = let next : n ≡ suc i = omega arith in rw next (at_place ki
 
 -- what is computed to hold of every kind of the list holds of the kind that a number stands for
 found_in : (p : RecordKind → Bool) (ks : List RecordKind) (n : ℕ) (k : RecordKind) → list_all p ks ≡ true → get_or (map Some ks) n None ≡ Some k → p k ≡ true
-found_in p [] n k h e = let z : ◌≡◌ {A = ℕ} 0 1 = cc in absurd (omega arith)
+found_in p [] n k h e = never cc
 found_in p (x ∷ ks) zero k h e = let same : x ≡ k = cc in rw (← same) (both_true (p x) (list_all p ks) h).0
 found_in p (x ∷ ks) (suc n) k h e = found_in p ks n k (both_true (p x) (list_all p ks) h).1 e
 
 every : (p : RecordKind → Bool) (n : ℕ) (k : RecordKind) → list_all p kinds ≡ true → kind_of n ≡ Some k → p k ≡ true
 unfolding kind_of
-every p zero k h e = let z : ◌≡◌ {A = ℕ} 0 1 = cc in absurd (omega arith)
+every p zero k h e = never cc
 every p (suc n) k h e = found_in p kinds n k h e
 
 -- no record is longer than a hypercall's
@@ -57,7 +57,7 @@ has_by k ks b false e later h = behind (later h)
     behind (has n x f g) = has (suc n) x f g
 
 in_list : (ks : List RecordKind) (b : ℕ) → list_any (λ x. eqb (length_of x) b) ks ≡ true → Has (λ n. get_or (map Some ks) n None) b
-in_list [] b h = let z : ◌≡◌ {A = ℕ} 0 1 = cc in absurd (omega arith)
+in_list [] b h = never cc
 in_list (k ∷ ks) b h = has_by k ks b _ refl (λ g. in_list ks b g) h
 
 pub some_known : (b : ℕ) → some_length b ≡ true → Has kind_of b

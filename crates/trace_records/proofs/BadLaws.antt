@@ -7,7 +7,7 @@ use native.Mathlib.Omega.{arith}
 use borrow.Author.Tests.{eqb-true, eq-eqb}
 use lib.Dec.{eqb, ltb}
 use lib.ListN.{length, get_or}
-use Rattle.words.proofs.Booleans.{both_true, false_unless}
+use Rattle.words.proofs.Booleans.{never, both_true, false_unless}
 use Rattle.calls.specs.declared.call.Call.{Call}
 use Rattle.trace_kinds.specs.declared.kinds.RecordKind.{RecordKind}
 use Rattle.std.specs.Prelude.{Option, Some, None}
@@ -17,7 +17,7 @@ use Rattle.trace_kinds.proofs.RecordKindLaws.{length_at_most, length_some}
 use Rattle.trace_records.proofs.DecodeLaws.{header, by_header, Seen, few, enough, seen, by_start, four}
 
 no : {a : Bool} → a ≡ false → a ≡ true → ⊥
-no h e = let z : ◌≡◌ {A = ℕ} 0 1 = cc in omega arith
+no h e = never cc
 
 -- bytes that a record begins with have begun so before
 began : (s t : List ℕ) → start_holds (s ++ t) ≡ true → start_holds s ≡ true
@@ -46,12 +46,12 @@ no_start (few s l) h = by_start s l ∙ rw h
 no_start (enough a b v k s) h = four a b v k s ∙ no_header (kind_of k) a b v k s refl h
 
 start_by : (holds : Bool) → cond holds unfinished bad_record ≡ bad_record → holds ≡ false
-start_by true h = let z : ◌≡◌ {A = ℕ} 0 1 = cc in absurd (omega arith)
+start_by true h = never cc
 start_by false h = refl
 
 header_by : (holds short : Bool) (c : Call) (n : ℕ) → by_header holds short c n ≡ bad_record → holds ≡ false
-header_by true true c n h = let z : ◌≡◌ {A = ℕ} 0 1 = cc in absurd (omega arith)
-header_by true false c n h = let z : ◌≡◌ {A = ℕ} 0 1 = cc in absurd (omega arith)
+header_by true true c n h = never cc
+header_by true false c n h = never cc
 header_by false short c n h = refl
 
 -- a header does not hang on what follows it

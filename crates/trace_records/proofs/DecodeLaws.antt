@@ -54,22 +54,22 @@ four a b v k s = by_kind (a ∷ b ∷ v ∷ k ∷ s) (omega arith)
 
 -- fewer than four bytes are no good record
 short_not_good : (holds : Bool) (c : Call) (n : ℕ) → cond holds unfinished bad_record ≡ good_record c n → ⊥
-short_not_good true c n h = let z : ◌≡◌ {A = ℕ} 0 1 = cc in omega arith
-short_not_good false c n h = let z : ◌≡◌ {A = ℕ} 0 1 = cc in omega arith
+short_not_good true c n h = never cc
+short_not_good false c n h = never cc
 
 -- by the tests of the header and of the length
 good_by : (holds short : Bool) (x c : Call) (m n : ℕ) → by_header holds short x m ≡ good_record c n
     → (holds ≡ true) × (short ≡ false) × (x ≡ c) × (m ≡ n)
-good_by true true x c m n h = let z : ◌≡◌ {A = ℕ} 0 1 = cc in absurd (omega arith)
+good_by true true x c m n h = never cc
 good_by true false x c m n h =
     let same : ◌≡◌ {A = Record} (record { call = x; size = m }) (record { call = c; size = n }) = cc in
     (refl, refl, ap (λ r. r.call) same, ap (λ r. r.size) same)
-good_by false short x c m n h = let z : ◌≡◌ {A = ℕ} 0 1 = cc in absurd (omega arith)
+good_by false short x c m n h = never cc
 
 -- a good record is at hand whole, has five bytes at least, and stays one
 good : (f : Option RecordKind) (a b v k : ℕ) (s t : List ℕ) (c : Call) (n : ℕ) → record_in f (a ∷ b ∷ v ∷ k ∷ s) ≡ good_record c n
     → (4 < n) × (n ≤ length (a ∷ b ∷ v ∷ k ∷ s)) × (record_in f (a ∷ b ∷ v ∷ k ∷ s ++ t) ≡ good_record c n)
-good None a b v k s t c n h = let z : ◌≡◌ {A = ℕ} 0 1 = cc in absurd (omega arith)
+good None a b v k s t c n h = never cc
 good (Some x) a b v k s t c n h =
     let bytes = a ∷ b ∷ v ∷ k ∷ s in
     let size = 2 + length_of x in
@@ -94,12 +94,12 @@ record_stays s t c n h = (good_seen (seen s) t c n h).2
 -- an unfinished record has a header that holds, and fewer bytes than the longest
 pub unfinished_by : (holds short : Bool) (c : Call) (n : ℕ) → by_header holds short c n ≡ unfinished → (holds ≡ true) × (short ≡ true)
 unfinished_by true true c n h = (refl, refl)
-unfinished_by true false c n h = let z : ◌≡◌ {A = ℕ} 0 1 = cc in absurd (omega arith)
-unfinished_by false short c n h = let z : ◌≡◌ {A = ℕ} 0 1 = cc in absurd (omega arith)
+unfinished_by true false c n h = never cc
+unfinished_by false short c n h = never cc
 
 short : (f : Option RecordKind) (a b v k : ℕ) (s : List ℕ) → kind_of k ≡ f → record_in f (a ∷ b ∷ v ∷ k ∷ s) ≡ unfinished
     → length (a ∷ b ∷ v ∷ k ∷ s) < 37
-short None a b v k s e h = let z : ◌≡◌ {A = ℕ} 0 1 = cc in absurd (omega arith)
+short None a b v k s e h = never cc
 short (Some x) a b v k s e h =
     let bytes = a ∷ b ∷ v ∷ k ∷ s in
     let size = 2 + length_of x in

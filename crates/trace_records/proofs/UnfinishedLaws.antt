@@ -7,7 +7,7 @@ use native.Mathlib.Omega.{arith}
 use borrow.Author.Tests.{eqb-true, le-ltb, eq-eqb}
 use lib.Dec.{eqb, ltb}
 use lib.ListN.{length, replicate, length-append, length-replicate}
-use Rattle.words.proofs.Booleans.{both_true}
+use Rattle.words.proofs.Booleans.{never, both_true}
 use Rattle.calls.specs.declared.call.Call.{Call}
 use Rattle.trace_kinds.specs.declared.kinds.RecordKind.{RecordKind}
 use Rattle.trace_kinds.specs.declared.kinds.RecordKind.TheVariants.{Create}
@@ -48,10 +48,10 @@ three a b v h =
 
 start_by : (holds : Bool) → cond holds unfinished bad_record ≡ unfinished → holds ≡ true
 start_by true h = refl
-start_by false h = let z : ◌≡◌ {A = ℕ} 0 1 = cc in absurd (omega arith)
+start_by false h = never cc
 
 by_kind : (f : Option RecordKind) (a b v k : ℕ) (s : List ℕ) → kind_of k ≡ f → record_in f (a ∷ b ∷ v ∷ k ∷ s) ≡ unfinished → Finishes (a ∷ b ∷ v ∷ k ∷ s)
-by_kind None a b v k s e h = let z : ◌≡◌ {A = ℕ} 0 1 = cc in absurd (omega arith)
+by_kind None a b v k s e h = never cc
 by_kind (Some x) a b v k s e h =
     let bytes = a ∷ b ∷ v ∷ k ∷ s in
     let size = 2 + length_of x in
