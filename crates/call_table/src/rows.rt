@@ -89,8 +89,8 @@ impl Count {
 }
 
 impl CallRow {
-    // The row of the call that R0 asks for, in the table of the caller's kind. The call is found behind the test of the kind, so that each
-    // table is one jump: found before it, a share of 64 granules misses its bar of speed.
+    // The row of the call that R0 asks for, in the table of the caller's kind.
+    // Found behind the test of the kind, each table is one jump; found before it, a share of 64 granules misses its bar of speed.
     pub fn of(legacy: bool, r0: u64) -> CallRow
         ensures { result ≡ call_row_of legacy (asked_by r0) }
     {

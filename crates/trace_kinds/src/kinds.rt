@@ -66,8 +66,8 @@ impl RecordKind {
         }
     }
 
-    // What a record of this kind asks for, by the slot byte and the arguments. They stand apart as in `call_of`: of an array, each would need
-    // its place in the clause too.
+    // What a record of this kind asks for, by the slot byte and the arguments.
+    // They are four numbers as in `call_of`: of an array, each would need its place in the clause too.
     pub fn call(self, slot: u64, a: u64, b: u64, c: u64, d: u64) -> Call
         ensures { result ≡ call_of self slot a b c d }
     {

@@ -3,7 +3,8 @@ ghost use Rattle.trace_records.specs.Record.{big_endian, slot_in, argument_in, h
 
 use trace_kinds::VERSION;
 
-// The number of at most eight bytes, the most significant first. `from_be_bytes` is no plainer: it would take each field as an array.
+// The number of at most eight bytes, the most significant first.
+// By `from_be_bytes` it is no plainer: each field would have to become an array first, of its own length.
 fn big_endian(bytes: &[u8]) -> u64
     requires { length bytes.now ≤ 8 }
     ensures { result ≡ big_endian bytes.now }
