@@ -12,38 +12,10 @@ use Rattle.answers.specs.declared.answer.Answer.{Answer}
 use Rattle.answers.specs.declared.answer.Answer.TheVariants.{BadLength, NoGuest}
 use Rattle.records.specs.Monitor.{zero_guest, guest_of}
 use Rattle.records.specs.declared.guest.Guest.{Guest}
-use Rattle.records.specs.declared.change.Change.{Change}
-use Rattle.records.specs.declared.change.Change.TheVariants.{Kept}
 use Rattle.records.proofs.ChangeLaws.{change_other, change_count}
 use Rattle.commands.specs.State.{State, Answered, answered}
-use Rattle.commands.specs.Tests.{Tests, first_refusal, refusal_by}
-use Rattle.commands.specs.Command.{View, view, Tables, no_table, map_table, both_tables, Slot, given_slot, lowest_free, no_slot, slot_number, Success, success_answer, Effect, answer_only, change_record, write_tables, Command, tests_of, effect_of, unless_refused, decision, decided_by, Result, result_with, result_by, result_of, view_of, applied, effected, performed}
-use Rattle.commands.specs.declared.admission.Admission.{Admission}
-use Rattle.commands.specs.declared.admission.Admission.TheVariants.{Passed, Refused}
-
--- by the admission that its tests gave a call
-module _ (k : Command) (x : View) (q : Admission) (t : refusal_by q ≡ first_refusal (tests_of k x)) where
-  pub refused_result : (a : Answer) → q ≡ Refused a → result_with x.frames x.map (decision Kept a) ≡ result_of k x
-  refused_result a p = rw (← t, p)
-
-  pub passed_result : q ≡ Passed → (o : Result) → o ≡ result_by x (effect_of k x) → o ≡ result_of k x
-  passed_result p o e = rw (← t, p) e
-
--- decided right behind its tests
-module _ (x : View) (ts : Tests Answer) {q : Option Answer} (e : q ≡ first_refusal ts) where
-  pub answered_result : (a : Answer) → result_with x.frames x.map (decided_by q Kept a) ≡ result_by x (unless_refused (first_refusal ts) (answer_only a))
-  answered_result a = rw e (on (first_refusal ts))
-    where
-      on : (r : Option Answer) → result_with x.frames x.map (decided_by r Kept a) ≡ result_by x (unless_refused r (answer_only a))
-      on none = refl
-      on (some b) = refl
-
-  pub changed_result : (d : Change) (y : Success) → result_with x.frames x.map (decided_by q d (success_answer y)) ≡ result_by x (unless_refused (first_refusal ts) (change_record d y))
-  changed_result d y = rw e (on (first_refusal ts))
-    where
-      on : (r : Option Answer) → result_with x.frames x.map (decided_by r d (success_answer y)) ≡ result_by x (unless_refused r (change_record d y))
-      on none = refl
-      on (some b) = refl
+use Rattle.commands.specs.Tests.{first_refusal}
+use Rattle.commands.specs.Command.{View, view, Tables, no_table, map_table, both_tables, Slot, given_slot, lowest_free, no_slot, slot_number, Success, success_answer, Effect, answer_only, change_record, write_tables, Command, tests_of, effect_of, unless_refused, Result, result_by, result_of, view_of, applied, effected, performed}
 
 -- what a call decides by the record of its slot, applied, is the call
 pub applying : (k : Command) (s : State) (v : ℕ) (g : Guest) (o : Result) → v ≡ slot_number k.slot s.monitor → g ≡ guest_of s.monitor v

@@ -1,26 +1,13 @@
 -- Tests in their order: where they refuse nothing, each has passed; those made one after another are those of one list.
 use mathlib.Core.Path.{◌≡◌, refl}
 use mathlib.Core.Bool.{Bool, true, false, cond}
-use mathlib.Core.List.{[], ◌∷◌, ◌++◌}
+use mathlib.Core.List.{[], ◌∷◌}
 use mathlib.Core.Option.{Option, none, some}
 use Rattle.commands.specs.Tests.{Tests, first_refusal, afterwards}
 
 through : {A : Type 0} (a : Bool) (q : Option A) (r : A) → cond a q (some r) ≡ none → (a ≡ true) × (q ≡ none)
 through true q r h = (refl, h)
 through false q r h = (cc, cc)
-
-still_refused : {A : Type 0} (b : Bool) (q q' : Option A) (r a : A) → (q ≡ some a → q' ≡ some a) → cond b q (some r) ≡ some a → cond b q' (some r) ≡ some a
-still_refused true q q' r a f h = f h
-still_refused false q q' r a f h = h
-
--- tests before others: where they refuse, so do all; where they pass, the others decide
-pub first_refuse : {A : Type 0} (ts us : Tests A) (a : A) → first_refusal ts ≡ some a → first_refusal (ts ++ us) ≡ some a
-first_refuse [] us a h = cc
-first_refuse (t ∷ ts) us a h = still_refused t.0 (first_refusal ts) (first_refusal (ts ++ us)) t.1 a (λ e. first_refuse ts us a e) h
-
-pub first_pass : {A : Type 0} (ts us : Tests A) → first_refusal ts ≡ none → first_refusal (ts ++ us) ≡ first_refusal us
-first_pass [] us h = refl
-first_pass (t ∷ ts) us h = let p = through t.0 (first_refusal ts) t.1 h in rw p.0 (first_pass ts us p.1)
 
 -- every test holds
 abbrev pub Passes : {A : Type 0} → Tests A → Type 0
@@ -47,7 +34,3 @@ after_first false q r ts us h = after_some r ts
 pub tests_in_order : {A : Type 0} (ts : Tests A) → all_after none ts ≡ first_refusal ts
 tests_in_order [] = refl
 tests_in_order (t ∷ ts) = after_first t.0 none t.1 ts ts (tests_in_order ts)
-
-pub tests_in_order_after : {A : Type 0} (ts us : Tests A) → all_after (first_refusal ts) us ≡ first_refusal (ts ++ us)
-tests_in_order_after [] us = tests_in_order us
-tests_in_order_after (t ∷ ts) us = after_first t.0 (first_refusal ts) t.1 us (ts ++ us) (tests_in_order_after ts us)

@@ -1,9 +1,7 @@
 -- Document 01, "Verdicts, in the order they are tested".
-use Rattle.std.specs.Prelude.{Bool, cond, List, [], ◌∷◌}
+use Rattle.std.specs.Prelude.{Bool, cond, List, [], ◌∷◌, Result, Ok, Err}
 use Rattle.std.proofs.Math.Option.{Option, none, some}
 use Rattle.answers.specs.declared.answer.Answer.{Answer}
-use Rattle.commands.specs.declared.admission.Admission.{Admission}
-use Rattle.commands.specs.declared.admission.Admission.TheVariants as admission
 
 -- tests in their order, each with what a call answers where it fails
 abbrev pub Tests : Type 0 → Type 0
@@ -18,7 +16,11 @@ abbrev pub afterwards : {A : Type 0} → Option A → Bool → A → Option A
 afterwards none b a = cond b none (some a)
 afterwards (some r) b a = some r
 
--- what the code's admission says
+-- what comes of the code's tests, which follow one another by `?`
+abbrev pub Admission : Type 0
+Admission = Result Unit Answer
+
+-- its refusal
 abbrev pub refusal_by : Admission → Option Answer
-refusal_by admission.Passed = none
-refusal_by (admission.Refused a) = some a
+refusal_by (Ok u) = none
+refusal_by (Err a) = some a

@@ -1,7 +1,8 @@
 ghost use Rattle.std.specs.Prelude.{◌≡◌};
 ghost use Rattle.records.specs.Change.{with_change};
 ghost use Rattle.records.specs.declared.change.Change.TheVariants.{Kept};
-ghost use Rattle.commands.specs.Command.{decision};
+ghost use Rattle.commands.specs.Tests.{refusal_by};
+ghost use Rattle.commands.specs.Command.{decision, decided_by};
 
 use answers::Answer;
 use records::{Change, Monitor};
@@ -28,6 +29,16 @@ impl Decision {
         Decision {
             change: Change::Kept,
             answer,
+        }
+    }
+
+    // What a call decides behind its tests: the refusal, which keeps the record, or else this.
+    pub fn after(tests: Result<(), Answer>, change: Change, answer: Answer) -> Decision
+        ensures { result ≡ decided_by (refusal_by tests) change answer }
+    {
+        match tests {
+            Err(refusal) => Decision::keep(refusal),
+            Ok(()) => Decision { change, answer },
         }
     }
 

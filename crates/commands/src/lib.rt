@@ -6,5 +6,5 @@
 mod admission;
 mod decision;
 
-pub use admission::Admission;
+pub use admission::check;
 pub use decision::{Decision, Reply};

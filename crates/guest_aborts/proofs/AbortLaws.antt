@@ -17,12 +17,11 @@ use Rattle.guest_aborts.specs.Calls.{unbacked, access_answer, guest_access_of}
 
 -- an access of slot v, whose row is `words`, in the granule g that holds the address
 module _ (frames map : List ℕ) (v : ℕ) (h : v < 8) (words : List ℕ) (e : words ≡ row_of map v) (a g : ℕ) (eg : g ≡ granule_of a) (guest : Guest) where
-  pub access_beyond : length words ≤ g → unbacked a guest ≡ guest_access_of frames map v a guest
+  pub access_beyond : length words ≤ g → guest_access_of frames map v a guest ≡ unbacked a guest
   unfolding guest_access_of
   access_beyond l = rw (← eg, le-ltb g (width_of (length map)) (off_row map v g words e l h))
 
-  pub access_within : g < length words → (k d : GranuleState) → k ≡ granule_state frames v g (map_word_of (get_or words g 0)) → k ≡ d
-      → access_answer a guest d ≡ guest_access_of frames map v a guest
+  pub access_within : g < length words → (k : GranuleState) → k ≡ granule_state frames v g (map_word_of (get_or words g 0))
+      → guest_access_of frames map v a guest ≡ access_answer a guest k
   unfolding guest_access_of
-  access_within l k d ek o =
-      rw (← eg, lt-ltb g (width_of (length map)) (in_row map v g words e l).granule, ← granule_in_row frames map v g words e l, ← ek, o)
+  access_within l k ek = rw (← eg, lt-ltb g (width_of (length map)) (in_row map v g words e l).granule, ← granule_in_row frames map v g words e l, ← ek)

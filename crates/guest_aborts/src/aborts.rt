@@ -4,7 +4,7 @@ ghost use Rattle.commands.specs.Command.{view, result_with, result_of};
 ghost use Rattle.guest_aborts.specs.Calls.{unbacked, guest_access_of, abort_command, abort_of};
 
 use answers::Answer;
-use commands::{Admission, Decision, Reply};
+use commands::{Decision, Reply};
 use guest_callers::caller_admission;
 use pairs::{GranuleState, granule_state};
 use records::{Guest, Monitor};
@@ -12,6 +12,7 @@ use tables::row;
 use words::Granule;
 
 // An access of the guest in a slot that found no page, at any address. It answers for any tables, slot number and records.
+#[tactic(auto, using(commands::proofs::CommandLaws::applying), unfolding(crate::specs::Calls::abort_of))]
 pub fn abort(monitor: Monitor, frames: &[u32], map: &[u32], slot: u64, ipa: u64) -> Reply
     ensures { answered (state frames.now map.now result.monitor) result.answer
         ≡ abort_of slot ipa (state frames.now map.now monitor) }
@@ -26,28 +27,24 @@ pub fn decide_abort(guest: Guest, frames: &[u32], map: &[u32], slot: u64, ipa: u
         ≡ result_of (abort_command slot ipa) (view frames.now map.now slot guest) }
 {
     match caller_admission(frames, map, slot, guest) {
-        Admission::Refused(answer) => Decision::keep(answer),
-        Admission::Passed => Decision::keep(guest_access(frames, map, slot, ipa, guest)),
+        Err(refusal) => Decision::keep(refusal),
+        Ok(()) => Decision::keep(guest_access(frames, map, slot, ipa, guest)),
     }
 }
 
 // What an access of a live guest at this address comes to.
+#[tactic(auto, using(crate::proofs::AbortLaws::access_beyond, crate::proofs::AbortLaws::access_within))]
 fn guest_access(frames: &[u32], map: &[u32], slot: u64, ipa: u64, guest: Guest) -> Answer
     requires { slot < 8 }
     ensures { result ≡ guest_access_of frames.now map.now slot ipa guest }
 {
-    let words = row(map, slot);
     let granule = Granule::holding(ipa);
-    let number = granule.0 as usize;
-    if words.len() <= number {
+    let Some(&word) = row(map, slot).get(granule.0 as usize) else {
         return access_unbacked(ipa, guest);
-    }
-    match granule_state(frames, slot as usize, granule, words[number]) {
+    };
+    match granule_state(frames, slot as usize, granule, word) {
         GranuleState::Vacant => access_unbacked(ipa, guest),
-        GranuleState::Frame {
-            shared: _,
-            frame: _,
-        } => Answer::Resume,
+        GranuleState::Frame { .. } => Answer::Resume,
         GranuleState::Guarded => Answer::MmioExit(ipa),
         GranuleState::Damaged => Answer::Damaged,
     }

@@ -4,17 +4,14 @@ ghost use Rattle.guest_hypercalls.specs.Calls.{row_tests};
 
 use answers::Answer;
 use call_table::CallRow;
-use commands::Admission;
+use commands::check;
 use functions::Registers;
 use records::Guest;
 
 // The tests of a hypercall's row: registers, then what the record must say.
-pub(crate) fn row_admission(row: CallRow, registers: Registers, guest: Guest) -> Admission
+pub(crate) fn row_admission(row: CallRow, registers: Registers, guest: Guest) -> Result<(), Answer>
     ensures { refusal_by result ≡ first_refusal (row_tests row registers guest) }
 {
-    let error = row.error;
-    let condition = row.condition;
-    Admission::Passed
-        .check(row.registers_hold(registers), Answer::from(error))
-        .check(condition.permits(guest), Answer::from(error))
+    check(row.registers_hold(registers), Answer::from(row.error))?;
+    check(row.condition.permits(guest), Answer::from(row.error))
 }

@@ -8,12 +8,13 @@ use crate::admissions::row_admission;
 use crate::work::{answer_of, change_row};
 use answers::Answer;
 use call_table::{Action, CallRow};
-use commands::{Admission, Decision, Reply};
+use commands::{Decision, Reply};
 use functions::{Error, Registers};
 use guest_callers::caller_admission;
 use records::{Change, Guest, Monitor};
 
 // A hypercall of the guest in a slot. It answers for any tables, slot number, records and registers.
+#[tactic(auto, using(commands::proofs::CommandLaws::applying), unfolding(crate::specs::Calls::hypercall_of))]
 pub fn hypercall(
     monitor: Monitor,
     frames: &mut [u32],
@@ -40,21 +41,18 @@ pub fn decide_hypercall(
     ensures { result_with frames.new map.new result
         ≡ result_of (hypercall_command slot registers) (view frames.old map.old slot guest) }
 {
-    match caller_admission(frames, map, slot, guest) {
-        Admission::Refused(answer) => Decision::keep(answer),
-        Admission::Passed => {
-            let row = CallRow::of(guest.legacy, registers.r0);
-            let error = row.error;
-            let action = row.action;
-            match row_admission(row, registers, guest) {
-                Admission::Refused(answer) => Decision::keep(answer),
-                Admission::Passed => act(frames, map, slot, registers, error, action),
-            }
-        }
+    if let Err(refusal) = caller_admission(frames, map, slot, guest) {
+        return Decision::keep(refusal);
     }
+    let row = CallRow::of(guest.legacy, registers.r0);
+    if let Err(refusal) = row_admission(row, registers, guest) {
+        return Decision::keep(refusal);
+    }
+    act(frames, map, slot, registers, row.error, row.action)
 }
 
 // What a hypercall does whose tests have passed. It looks at no record, so the equation holds with any.
+#[tactic(auto, using(words::proofs::RegisterLaws::zero_extended), unfolding(crate::specs::Calls::act_of))]
 fn act(
     frames: &mut [u32],
     map: &mut [u32],

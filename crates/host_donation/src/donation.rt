@@ -5,13 +5,14 @@ ghost use Rattle.commands.specs.Command.{view, tests_of, result_with, result_of}
 ghost use Rattle.host_donation.specs.Calls.{donate_command, donate_of};
 
 use answers::Answer;
-use commands::{Admission, Decision, Reply};
+use commands::{Decision, Reply, check};
 use pairs::{pair_at, pair_of};
 use records::{Guest, Monitor};
 use tables::{lengths_hold, row_bounds, row_width};
 use words::{FrameWord, Granule, MapWord};
 
 // The host gives a frame to a vacant granule of a live guest, as private. It answers for any tables, records, slot, frame and granule number.
+#[tactic(auto, using(commands::proofs::CommandLaws::applying), unfolding(crate::specs::Calls::donate_of))]
 pub fn donate(
     monitor: Monitor,
     frames: &mut [u32],
@@ -29,6 +30,7 @@ pub fn donate(
 }
 
 // What donate decides by the record of its slot, any record where the slot is above 7. The tables it changes.
+#[tactic(auto, using(crate::proofs::DonationLaws::donate_in_range, crate::proofs::DonationLaws::donate_index))]
 pub fn decide_donate(
     guest: Guest,
     frames: &mut [u32],
@@ -40,18 +42,15 @@ pub fn decide_donate(
     ensures { result_with frames.new map.new result
         ≡ result_of (donate_command slot frame granule) (view frames.old map.old slot guest) }
 {
-    match donate_admission(frames, map, slot, frame, granule, guest) {
-        Admission::Refused(answer) => Decision::keep(answer),
-        Admission::Passed => {
-            let bounds = row_bounds(map.len(), slot);
-            let number = granule as usize;
-            let index = bounds.start + number;
-            let given = frame as usize;
-            map[index] = MapWord::of_frame(false, given);
-            frames[given] = FrameWord::of_owner(slot as usize, false, number);
-            Decision::keep(Answer::Done(0))
-        }
+    if let Err(refusal) = donate_admission(frames, map, slot, frame, granule, guest) {
+        return Decision::keep(refusal);
     }
+    let bounds = row_bounds(map.len(), slot);
+    let number = granule as usize;
+    let given = frame as usize;
+    map[bounds.start + number] = MapWord::of_frame(false, given);
+    frames[given] = FrameWord::of_owner(slot as usize, false, number);
+    Decision::keep(Answer::Done(0))
 }
 
 // The tests of donate, of the record of the slot's guest.
@@ -62,21 +61,20 @@ fn donate_admission(
     frame: u64,
     granule: u64,
     guest: Guest,
-) -> Admission
+) -> Result<(), Answer>
     ensures { refusal_by result ≡ first_refusal (tests_of (donate_command slot frame granule) (view frames.now map.now slot guest)) }
 {
+    check(lengths_hold(frames.len(), map.len()), Answer::BadLength)?;
+    check(guest.lives_in(slot), Answer::NoGuest)?;
+    check((frame as usize) < frames.len(), Answer::OutOfRange)?;
+    check(
+        (granule as usize) < row_width(map.len()),
+        Answer::OutOfRange,
+    )?;
     let here = pair_at(map, frames, slot, Granule(granule));
+    check(here.is_undamaged(), Answer::Damaged)?;
     let there = pair_of(map, frames, frame);
-    Admission::Passed
-        .check(lengths_hold(frames.len(), map.len()), Answer::BadLength)
-        .check(guest.lives_in(slot), Answer::NoGuest)
-        .check((frame as usize) < frames.len(), Answer::OutOfRange)
-        .check(
-            (granule as usize) < row_width(map.len()),
-            Answer::OutOfRange,
-        )
-        .check(here.is_undamaged(), Answer::Damaged)
-        .check(there.is_undamaged(), Answer::Damaged)
-        .check(there.is_host(), Answer::InUse)
-        .check(here.is_vacant(), Answer::InUse)
+    check(there.is_undamaged(), Answer::Damaged)?;
+    check(there.is_host(), Answer::InUse)?;
+    check(here.is_vacant(), Answer::InUse)
 }

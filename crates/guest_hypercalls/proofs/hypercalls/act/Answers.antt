@@ -4,25 +4,9 @@ use Rattle.guest_hypercalls.proofs.HypercallLaws.{range_result}
 use Rattle.guest_hypercalls.specs.Calls.{act_of}
 use Rattle.ranges.specs.Range.{range_limit}
 use Rattle.commands.specs.Command.{view}
-use Rattle.words.proofs.RegisterLaws.{zero_extended}
-use Prim.Native.Nat.{◌<◌, ◌^◌, min}
+use Prim.Native.Nat.{min}
 use Rattle.call_table.specs.Table.{granules_of, is_told}
-use borrow.Author.Rules.{rules}
 use Rattle.guest_hypercalls.proofs.hypercalls.act.Goals as goal
-
-pub returns-in-Refuse : goal.returns-in-Refuse
-unfolding act_of
-returns-in-Refuse c = λ guest. rw (c.in-Refuse.is, c.keep.ensures, c.from.ensures)
-
-pub returns-in-Tell : goal.returns-in-Tell
-unfolding act_of
-returns-in-Tell c =
-    let below : c.in-Tell.r0 < 2 ^ 63 = search rules in
-    λ guest. rw (c.in-Tell.is, c.keep-in-Tell.ensures, zero_extended c.in-Tell.r0 below)
-
-pub returns-in-Enroll : goal.returns-in-Enroll
-unfolding act_of
-returns-in-Enroll c = λ guest. rw (c.in-Enroll.is, c.returned.ensures)
 
 pub returns-in-Change : goal.returns-in-Change
 unfolding act_of
