@@ -4,6 +4,7 @@ ghost use Rattle.host_registers.specs.Registers.{register_numbered, is_known, li
 use records::FirmwareRegister;
 
 // The register of a number.
+#[tactic(auto, unfolding(crate::specs::Registers::register_numbered))]
 pub(crate) fn numbered(number: u64) -> FirmwareRegister
     ensures { result ≡ register_numbered number }
 {
@@ -11,19 +12,14 @@ pub(crate) fn numbered(number: u64) -> FirmwareRegister
         0 => FirmwareRegister::Std,
         1 => FirmwareRegister::StdHyp,
         2 => FirmwareRegister::VendorHyp,
-        3..=0xFFFF_FFFF_FFFF_FFFF => FirmwareRegister::Unknown,
+        _ => FirmwareRegister::Unknown,
     }
 }
 
 pub(crate) fn is_known(register: FirmwareRegister) -> bool
     ensures { result ≡ is_known register }
 {
-    match register {
-        FirmwareRegister::Std => true,
-        FirmwareRegister::StdHyp => true,
-        FirmwareRegister::VendorHyp => true,
-        FirmwareRegister::Unknown => false,
-    }
+    !matches!(register, FirmwareRegister::Unknown)
 }
 
 // The bits that may be set.
@@ -31,9 +27,7 @@ pub(crate) fn limit(register: FirmwareRegister) -> u64
     ensures { result ≡ limit_of register }
 {
     match register {
-        FirmwareRegister::Std => 0,
-        FirmwareRegister::StdHyp => 0,
         FirmwareRegister::VendorHyp => 1,
-        FirmwareRegister::Unknown => 0,
+        FirmwareRegister::Std | FirmwareRegister::StdHyp | FirmwareRegister::Unknown => 0,
     }
 }
