@@ -60,64 +60,56 @@ pub enum Call {
 }
 
 impl Call {
-    // The slot whose record the call looks at and may change. That of create is the lowest that is not live. A call about a frame has none: 8.
+    // The slot whose record the call looks at and may change. That of create is the lowest that is not live. A call about a frame has none: 8,
+    // a number and no Option, as in `slot_number`, since a slot given may be above 7 too.
     pub fn slot(self, monitor: Monitor) -> u64
         ensures { result ≡ slot_number (command_of self).slot monitor }
     {
         match self {
-            Call::Create { legacy: _ } => monitor.free_slot(),
-            Call::Donate {
-                slot,
-                frame: _,
-                granule: _,
-            } => slot,
-            Call::Run { slot } => slot,
-            Call::Remove { slot } => slot,
-            Call::Cleared { frame: _ } => 8,
-            Call::Access { frame: _ } => 8,
-            Call::Show { slot } => slot,
-            Call::RegisterRead { slot, register: _ } => slot,
-            Call::RegisterWrite {
-                slot,
-                register: _,
-                value: _,
-            } => slot,
-            Call::Hypercall { slot, registers: _ } => slot,
-            Call::Abort { slot, ipa: _ } => slot,
+            Call::Create { .. } => monitor.free_slot(),
+            Call::Cleared { .. } | Call::Access { .. } => 8,
+            Call::Donate { slot, .. }
+            | Call::Run { slot }
+            | Call::Remove { slot }
+            | Call::Show { slot }
+            | Call::RegisterRead { slot, .. }
+            | Call::RegisterWrite { slot, .. }
+            | Call::Hypercall { slot, .. }
+            | Call::Abort { slot, .. } => slot,
         }
     }
 
     // What the call decides for its slot and the record there, any record where the slot is above 7. The tables it changes.
+    // Two slices, as the C interface lends them. A match and no table of functions, as `command_of`: each call has its own arguments.
     pub fn decide(self, at: u64, guest: Guest, frames: &mut [u32], map: &mut [u32]) -> Decision
         ensures { result_with frames.new map.new result
             ≡ result_of (command_of self) (view frames.old map.old at guest) }
     {
         match self {
             Call::Create { legacy } => decide_create(frames, map, at, legacy),
-            Call::Donate {
-                slot: _,
-                frame,
-                granule,
-            } => decide_donate(guest, frames, map, at, frame, granule),
-            Call::Run { slot: _ } => decide_run(guest, at),
-            Call::Remove { slot: _ } => decide_remove(guest, frames, map, at),
+            Call::Donate { frame, granule, .. } => {
+                decide_donate(guest, frames, map, at, frame, granule)
+            }
+            Call::Run { .. } => decide_run(guest, at),
+            Call::Remove { .. } => decide_remove(guest, frames, map, at),
             Call::Cleared { frame } => decide_cleared(frames, map, frame),
             Call::Access { frame } => decide_access(frames, map, frame),
-            Call::Show { slot: _ } => decide_show(guest, map, at),
-            Call::RegisterRead { slot: _, register } => decide_register_read(guest, at, register),
+            Call::Show { .. } => decide_show(guest, map, at),
+            Call::RegisterRead { register, .. } => decide_register_read(guest, at, register),
             Call::RegisterWrite {
-                slot: _,
                 register,
                 value,
+                ..
             } => decide_register_write(guest, at, register, value),
-            Call::Hypercall { slot: _, registers } => {
-                decide_hypercall(guest, frames, map, at, registers)
-            }
-            Call::Abort { slot: _, ipa } => decide_abort(guest, frames, map, at, ipa),
+            Call::Hypercall { registers, .. } => decide_hypercall(
+                guest, frames, map, at, registers,
+            ),
+            Call::Abort { ipa, .. } => decide_abort(guest, frames, map, at, ipa),
         }
     }
 
     // The call made on these records and tables. It answers for any call, records and tables. Of show it is the verdict.
+    #[tactic(auto, using(commands::proofs::CommandLaws::applying), unfolding(crate::specs::Step::step))]
     pub fn perform(self, monitor: Monitor, frames: &mut [u32], map: &mut [u32]) -> Reply
         ensures { answered (state frames.new map.new result.monitor) result.answer
             ≡ step self (state frames.old map.old monitor) }
