@@ -32,7 +32,7 @@ pub fn decide_abort(guest: Guest, frames: &[u32], map: &[u32], slot: u64, ipa: u
     }
 }
 
-// What an access of a live guest at this address comes to.
+// What an access of a live guest at this address comes to. A type for a slot below 8 would be made and taken apart at this one call.
 #[tactic(auto, using(crate::proofs::AbortLaws::access_beyond, crate::proofs::AbortLaws::access_within))]
 fn guest_access(frames: &[u32], map: &[u32], slot: u64, ipa: u64, guest: Guest) -> Answer
     requires { slot < 8 }

@@ -51,7 +51,8 @@ pub fn decide_hypercall(
     act(frames, map, slot, registers, row.error, row.action)
 }
 
-// What a hypercall does whose tests have passed. It looks at no record, so the equation holds with any.
+// What a hypercall does whose tests have passed. It looks at no record, so the equation holds with any. A match and no closures, as
+// `act_of`: an action is data of the table. A type for a slot below 8 would be made and taken apart at this one call.
 #[tactic(auto, using(words::proofs::RegisterLaws::zero_extended), unfolding(crate::specs::Calls::act_of))]
 fn act(
     frames: &mut [u32],
