@@ -1,19 +1,23 @@
 -- A record put in changes its own words and no others; one that is there already changes none.
-use mathlib.Core.Path.{◌≡◌, refl}
-use mathlib.Core.Logic.{◌≢◌}
+use mathlib.Core.Path.{◌≡◌, refl, subst, ◌∙◌}
 use mathlib.Core.Bool.{true, false}
-use mathlib.Core.List.{List, [], ◌∷◌, ◌++◌, append_assoc, append-nil}
-use Prim.Native.Nat.{ℕ, zero, suc, ◌+◌, ◌*◌, ◌-◌, ◌≤◌, ◌<◌}
+use mathlib.Core.List.{List, [], ◌∷◌, ◌++◌, map, append_assoc}
+use Prim.Native.Nat.{ℕ, zero, suc, ◌+◌, ◌*◌, ◌≤◌, ◌<◌}
 use native.Mathlib.Nat.{zero-add}
 use native.Mathlib.Omega.{arith}
-use borrow.Author.Tests.{lt-ltb, le-ltb, eq-eqb, ne_eqb}
-use lib.ListN.{length, get_or, take, drop, set, replicate, length-drop, take-append-drop, drop_of_length-le}
-use lib.Seq.{drop-drop, drop-cons, take-add, take_all, length-take-le, paste}
+use borrow.Author.Tests.{lt-ltb, le-ltb, eq-eqb}
+use lib.ListN.{get_or, take, drop, set, take-append-drop}
+use lib.Seq.{drop-drop, take-add}
+use borrow.Rule.Slice.PartMut.{put_mid}
+use denote.Param.Members.{Called, Mut}
+use Rattle.std.specs.Array.{IsFromFnResult, IsFromFnResultFrom}
+use Rattle.std.specs.List.{range_with_len}
+use Rattle.std.proofs.lemmas.List.FromFn.{fill_by_all}
 use Rattle.records.specs.Monitor.{guest_length, words_of, zero_guest, guest_of, with_guest}
 use Rattle.records.specs.Change.{changed, alters, with_change}
 use Rattle.records.specs.declared.guest.Guest.{Guest}
 use Rattle.records.specs.declared.change.Change.{Change}
-use Rattle.records.proofs.ChangeLaws.{beyond}
+use Rattle.records.proofs.ChangeLaws.{change_is_put, beyond}
 use Rattle.record_words.specs.Words.{words_from, guest_at, guests_from, monitor_in, same_words, record_after, records_after, words_after}
 
 from_there : (w : List ℕ) (u n k : ℕ) → k < n → get_or (guests_from w u n) k zero_guest ≡ guest_at w (u + k)
@@ -29,30 +33,21 @@ pub guest_nowhere : (w : List ℕ) (v : ℕ) → 8 ≤ v → guest_of (monitor_i
 unfolding guest_of
 guest_nowhere w v h = rw (le-ltb v 8 h)
 
--- two rows of words compared from word i on
-module _ (a b : List ℕ) (i : ℕ) where
-  module _ (h : i < length a) (k : i < length b) where
-    pub words_differ : get_or a i 0 ≢ get_or b i 0 → same_words (drop i a) (drop i b) ≡ false
-    words_differ n = rw (drop-cons a i 0 h, drop-cons b i 0 k, ne_eqb (get_or a i 0) (get_or b i 0) n)
+-- the list that a closure fills, called at each index in turn, where each call gives h of the index and leaves the closure as it was
+module _ {F X : Type 0} (g : Mut F (ℕ × Unit {0}) X) (f : F) (h : ℕ → X)
+    (gives : (i : ℕ) (x : X) (q : F) → Called g f (i, tt) x q → (q ≡ f) × (x ≡ h i))
+  where
+    filled_at : (ys : List X) (i n k : ℕ) (d : X) → IsFromFnResultFrom g f ys i n → k < n → get_or ys (i + k) d ≡ h (i + k)
+    filled_at ys i zero k d c l = absurd (omega arith)
+    filled_at ys i (suc n) zero d c l =
+        let here : i + 0 ≡ i = omega arith in
+        rw here (c.2.1 d ∙ (gives i c.1 c.0 c.3).1)
+    filled_at ys i (suc n) (suc k) d c l =
+        let there : i + 1 + k ≡ i + suc k = omega arith in
+        rw there at (filled_at ys (i + 1) n k d (subst (λ (q : F). IsFromFnResultFrom g q ys (i + 1) n) (gives i c.1 c.0 c.3).0 c.4) (omega arith))
 
-    pub words_alike : get_or a i 0 ≡ get_or b i 0 → same_words (drop i a) (drop i b) ≡ same_words (drop (i + 1) a) (drop (i + 1) b)
-    words_alike e = let next : i + 1 ≡ suc i = omega arith in rw (drop-cons a i 0 h, drop-cons b i 0 k, eq-eqb (get_or a i 0) (get_or b i 0) e, next)
-
-  pub words_end : length a ≤ i → length b ≤ i → same_words (drop i a) (drop i b) ≡ true
-  words_end h k = rw (drop_of_length-le a h, drop_of_length-le b k)
-
--- the part that the words of slot v's record are, copied over as many
-pub copied_whole : (w : List ℕ) (v : ℕ) → length w ≡ guest_length * 8 → v < 8
-    → let start = guest_length * v in
-    let part = take (start + guest_length - start) (drop start w) in
-    paste (replicate guest_length 0) 0 part (length part) ≡ take guest_length (words_from w v)
-copied_whole w v h l =
-    let start = guest_length * v in
-    let same : start + guest_length - start ≡ guest_length = omega arith in
-    let own = take guest_length (words_from w v) in
-    let rest : guest_length ≤ length w - start = omega (arith, h, l) in
-    let long : length own ≡ guest_length = length-take-le guest_length (words_from w v) (rw (length-drop start w) rest) in
-    rw (same, long) (rw (take_all guest_length own (omega (arith, long)), append-nil own))
+    pub filled : (ys : List X) (n : ℕ) → X → IsFromFnResult g f ys n → ys ≡ map h (range_with_len 0 n)
+    filled ys n d c = fill_by_all h ys n d c.long (λ k l. let none : 0 + k ≡ k = omega arith in rw none at (filled_at ys 0 n k d c.each l))
 
 same_self : (w : List ℕ) → same_words w w ≡ true
 same_self [] = refl
@@ -94,17 +89,18 @@ put_at w k g h =
 
 module _ (w : List ℕ) (k : ℕ) (d : Change) where
   -- by the words old of the record y that is there, and the words own of the record g that it leaves
-  module _ (a : true ≡ alters d) (h : k < 8) (y : Guest) (there : y ≡ guest_of (monitor_in w) k) (g : Guest) (made : g ≡ changed d y)
+  module _ (h : k < 8) (y : Guest) (there : y ≡ guest_of (monitor_in w) k) (g : Guest) (made : g ≡ changed d y)
       (old own : List ℕ) (p : old ≡ words_of y) (q : own ≡ words_of g)
     where
       compared : same_words old own ≡ same_words (words_of (guest_at w k)) (words_of g)
       compared = rw (p, q, there, guest_there w k h)
 
       put : words_after w (with_change (monitor_in w) k d) ≡ take (guest_length * k) w ++ record_after w k g ++ drop (guest_length * k + guest_length) w
-      put = rw (← a, ← there, ← made) (put_at w k g h)
+      put = rw (change_is_put (monitor_in w) k d, ← there, ← made) (put_at w k g h)
 
-      pub change_written : same_words old own ≡ false → paste w (guest_length * k) own guest_length ≡ words_after w (with_change (monitor_in w) k d)
-      change_written e = rw (put, ← compared, e, q)
+      pub change_written : same_words old own ≡ false → (n : ℕ) → n ≡ guest_length
+          → put_mid (guest_length * k) n w own ≡ words_after w (with_change (monitor_in w) k d)
+      change_written e n whole = rw (put, ← compared, e, q, whole) (simp (drop-drop, append_assoc))
 
       pub change_same : same_words old own ≡ true → w ≡ words_after w (with_change (monitor_in w) k d)
       change_same e = rw (put, ← compared, e, ← take-add (guest_length * k) guest_length w, take-append-drop (guest_length * k + guest_length) w)

@@ -1,5 +1,6 @@
 -- The guest records as words that a caller lends, those of slot 0 first. And an answer as five words.
-use Rattle.std.specs.Prelude.{Bool, true, false, cond, ◌&&◌, List, [], ◌∷◌, ◌++◌, ℕ, zero, suc, ◌*◌, eqb, take, drop}
+use Rattle.std.specs.Prelude.{Bool, cond, List, [], ◌∷◌, ◌++◌, ℕ, zero, suc, ◌*◌, eqb, take, drop}
+use Rattle.std.specs.Cmp.Lexicographic.{pointwise}
 use Rattle.records.specs.Monitor.{guest_length, words_of, guest_in}
 use Rattle.records.specs.declared.guest.Guest.{Guest}
 use Rattle.records.specs.declared.monitor.Monitor.{Monitor}
@@ -22,11 +23,9 @@ guests_from w v (suc n) = guest_at w v ∷ guests_from w (suc v) n
 abbrev pub monitor_in : List ℕ → Monitor
 monitor_in w = record { guests = guests_from w 0 8 }
 
+-- as many words, and place by place the same
 abbrev pub same_words : List ℕ → List ℕ → Bool
-same_words [] [] = true
-same_words [] (y ∷ ys) = false
-same_words (x ∷ xs) [] = false
-same_words (x ∷ xs) (y ∷ ys) = eqb x y && same_words xs ys
+same_words = pointwise eqb
 
 -- the words of slot v's record once that is g: a record that did not change stays word for word, another is written whole, its flags as 0 or 1
 abbrev pub record_after : List ℕ → ℕ → Guest → List ℕ

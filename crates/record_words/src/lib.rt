@@ -5,5 +5,5 @@
 mod replies;
 mod slots;
 
-pub use replies::put_answer;
+pub use replies::{put_answer, put_decision};
 pub use slots::{ALL_RECORDS_WORDS, guest_in, monitor_in, put_change};

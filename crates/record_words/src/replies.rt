@@ -1,15 +1,32 @@
 ghost use Rattle.std.specs.Prelude.{◌≡◌};
 ghost use Rattle.answers.specs.Answer.{numbers_of};
-ghost use Rattle.record_words.specs.Words.{answer_words};
+ghost use Rattle.records.specs.Change.{with_change};
+ghost use Rattle.record_words.specs.Words.{monitor_in, words_after, answer_words};
 
+use crate::slots::{ALL_RECORDS_WORDS, put_change};
 use commands::Decision;
+
+// Makes the change that a call decided of the record of its slot, and writes its answer.
+pub fn put_decision(
+    words: &mut [u64; ALL_RECORDS_WORDS],
+    slot: u64,
+    decision: Decision,
+    answer: &mut [u64; 5],
+)
+    ensures changed { words.new ≡ words_after words.old (with_change (monitor_in words.old) slot decision.change) }
+    ensures answered { answer.new ≡ answer_words (numbers_of decision.answer) }
+{
+    if decision.change.alters() {
+        put_change(words, slot, decision.change);
+    }
+    put_answer(answer, decision);
+}
 
 // Writes the answer of what a call decided: the verdict and v0 to v3.
 pub fn put_answer(words: &mut [u64; 5], decision: Decision)
     ensures { words.new ≡ answer_words (numbers_of decision.answer) }
 {
-    let answer = decision.answer;
-    let numbers = answer.numbers();
+    let numbers = decision.answer.numbers();
     *words = [
         numbers.verdict,
         numbers.v0,

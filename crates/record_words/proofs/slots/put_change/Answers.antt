@@ -1,28 +1,21 @@
--- By whether the change alters a record, whether the slot has one, and whether that stays as it is.
-use mathlib.Core.Path.{◌≡◌, sym, ap, ◌∙◌}
-use lib.ListN.{length}
-use Rattle.records.specs.Monitor.{guest_length}
-use Rattle.record_words.proofs.WordLaws.{change_none, change_same, change_written, change_nowhere}
+-- By whether the slot has a record, and whether that stays as it is.
+use Rattle.std.proofs.Common.{rules}
+use native.Mathlib.Omega.{arith}
+use Rattle.record_words.proofs.WordLaws.{change_same, change_written, change_nowhere}
 use Rattle.record_words.proofs.slots.put_change.Goals as goal
 
-pub returns-then-same : goal.returns-then-same
-returns-then-same c =
+pub returns-then-slot-ge8 : goal.returns-then-slot-ge8
+returns-then-slot-ge8 c = change_nowhere c.args.words.now c.args.slot c.args.change c.if-slot-ge8.true
+
+pub returns-then-ne : goal.returns-then-ne
+returns-then-ne c =
     let entry = c.args in
-    change_same entry.words.now entry.slot entry.change (sym c.if-alters.true ∙ c.alters.ensures) c.if-slot-lt8.true
-    _ c.guest_in-guest.ensures _ c.apply.ensures _ _ c.words.ensures c.words-own.ensures
-    (sym c.same.ensures ∙ c.if-same.true)
+    rw c.copy_from_slice.ensures.after
+    (change_written entry.words.now entry.slot entry.change c.if-slot-ge8.false
+    _ c.guest_in-guest.ensures _ c.apply.ensures _ _ c.words.ensures c.words-own.ensures (search rules) _ (omega arith))
 
-pub returns-else-same : goal.returns-else-same
-returns-else-same c =
+pub returns-else-ne : goal.returns-else-ne
+returns-else-ne c =
     let entry = c.args in
-    let long : length c.words-own.result ≡ guest_length = ap length c.words-own.ensures in
-    rw long at c.copy.ensures
-    ∙ change_written entry.words.now entry.slot entry.change (sym c.if-alters.true ∙ c.alters.ensures) c.if-slot-lt8.true
-    _ c.guest_in-guest.ensures _ c.apply.ensures _ _ c.words.ensures c.words-own.ensures
-    (sym c.same.ensures ∙ c.if-same.false)
-
-pub returns-else-slot-lt8 : goal.returns-else-slot-lt8
-returns-else-slot-lt8 c = change_nowhere c.args.words.now c.args.slot c.args.change c.if-slot-lt8.false
-
-pub returns-else-alters : goal.returns-else-alters
-returns-else-alters c = change_none c.args.words.now c.args.slot c.args.change (sym c.if-alters.false ∙ c.alters.ensures)
+    change_same entry.words.now entry.slot entry.change c.if-slot-ge8.false
+    _ c.guest_in-guest.ensures _ c.apply.ensures _ _ c.words.ensures c.words-own.ensures (search rules)
