@@ -40,7 +40,7 @@ use Rattle.calls.specs.Step.{step}
 use Rattle.calls.specs.declared.call.Call.{Call}
 use Rattle.claims.specs.SingleSteps.{RangeCall, number_of, at, single_step, single_steps}
 use Rattle.record_words.specs.Words.{monitor_in, answer_words}
-use Rattle.embed.specs.Lent.{lent, lent_after}
+use Rattle.record_words.specs.Lent.{lent, lent_after}
 use Rattle.claims.specs.Refusals.{is_refusal}
 use Rattle.claims.specs.Exported.{exported_as}
 use Rattle.claims.specs.Pieces.{call_at, carried_on, live_legacy, CountsChanges, address_in, AddressFits}

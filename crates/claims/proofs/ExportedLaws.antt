@@ -18,7 +18,7 @@ use Rattle.calls.specs.declared.call.Call.{Call}
 use Rattle.calls.specs.declared.call.Call.TheVariants.{Create, Donate, Run, Remove, Cleared, Access, Show, RegisterRead, RegisterWrite, Hypercall, Abort}
 use Rattle.record_words.specs.Words.{monitor_in, answer_words}
 use Rattle.record_words.proofs.WordLaws.{records_kept}
-use Rattle.embed.specs.Lent.{lent, lent_after}
+use Rattle.record_words.specs.Lent.{lent, lent_after}
 use Rattle.claims.specs.Refusals.{is_refusal}
 use Rattle.claims.specs.Exported.{exported_as}
 use Rattle.claims.proofs.RefusalLaws.{KeptRefused, step_kept}

@@ -22,7 +22,7 @@ use Rattle.records.specs.declared.monitor.Monitor.{Monitor}
 use Rattle.answers.specs.declared.answer.Answer.{Answer}
 use Rattle.host_guests.specs.Calls.{show_command, shown_unless, shown_by, show_of}
 use Rattle.host_guests.proofs.GuestLaws.{show_performed}
-use Rattle.embed.specs.Lent.{part_words}
+use Rattle.embed.specs.Part.{part_words}
 
 -- show, by the record g of slot v
 module _ (v : ℕ) (r : Monitor) (m : List ℕ) (g : Guest) (e : g ≡ guest_of r v) where

@@ -2,15 +2,16 @@ ghost use Rattle.std.specs.Prelude.{◌≡◌};
 ghost use Rattle.guest_hypercalls.specs.Calls.{hypercall_of};
 ghost use Rattle.guest_aborts.specs.Calls.{abort_of};
 ghost use Rattle.functions.specs.Rules.{registers};
-ghost use Rattle.embed.specs.Lent.{lent, lent_after};
+ghost use Rattle.record_words.specs.Lent.{lent, lent_after};
 
 use functions::Registers;
 use guest_aborts::decide_abort;
 use guest_hypercalls::decide_hypercall;
-use record_words::{ALL_RECORDS_WORDS, guest_in, put_answer, put_change};
+use record_words::{ALL_RECORDS_WORDS, guest_in, put_answer, put_decision};
 
 // A hypercall of the guest in a slot, with R0 to R3.
-pub fn clundip_hypercall_abi2(
+#[unsafe(no_mangle)]
+pub extern "C" fn clundip_hypercall_abi2(
     records: &mut [u64; ALL_RECORDS_WORDS],
     frames: &mut [u32],
     map: &mut [u32],
@@ -26,18 +27,12 @@ pub fn clundip_hypercall_abi2(
 {
     let registers = Registers { r0, r1, r2, r3 };
     let decision = decide_hypercall(guest_in(records, slot), frames, map, slot, registers);
-    let change = decision.change;
-    // Few hypercalls change the record.
-    if change.alters() {
-        put_change(records, slot, change);
-        put_answer(answer, decision);
-        return;
-    }
-    put_answer(answer, decision);
+    put_decision(records, slot, decision, answer);
 }
 
 // An access of the guest in a slot that found no page.
-pub fn clundip_abort_abi2(
+#[unsafe(no_mangle)]
+pub extern "C" fn clundip_abort_abi2(
     records: &[u64; ALL_RECORDS_WORDS],
     frames: &[u32],
     map: &[u32],

@@ -1,12 +1,13 @@
 ghost use Rattle.std.specs.Prelude.{◌≡◌, List, ℕ};
 ghost use Rattle.host_registers.specs.Registers.{register_read_of, register_write_of};
-ghost use Rattle.embed.specs.Lent.{lent, lent_after};
+ghost use Rattle.record_words.specs.Lent.{lent, lent_after};
 
 use host_registers::{decide_register_read, decide_register_write};
-use record_words::{ALL_RECORDS_WORDS, guest_in, put_answer, put_change};
+use record_words::{ALL_RECORDS_WORDS, guest_in, put_answer, put_decision};
 
 // The host reads a firmware register of the guest in a slot.
-pub fn clundip_register_read_abi2(
+#[unsafe(no_mangle)]
+pub extern "C" fn clundip_register_read_abi2(
     records: &[u64; ALL_RECORDS_WORDS],
     slot: u64,
     register: u64,
@@ -20,7 +21,8 @@ pub fn clundip_register_read_abi2(
 }
 
 // The host writes a firmware register of the guest in a slot.
-pub fn clundip_register_write_abi2(
+#[unsafe(no_mangle)]
+pub extern "C" fn clundip_register_write_abi2(
     records: &mut [u64; ALL_RECORDS_WORDS],
     slot: u64,
     register: u64,
@@ -31,7 +33,5 @@ pub fn clundip_register_write_abi2(
         ≡ lent_after (register_write_of slot register value) records.old frames map }
 {
     let decision = decide_register_write(guest_in(records, slot), slot, register, value);
-    let change = decision.change;
-    put_change(records, slot, change);
-    put_answer(answer, decision);
+    put_decision(records, slot, decision, answer);
 }

@@ -3,15 +3,17 @@ ghost use Rattle.answers.specs.Answer.{numbers_of};
 ghost use Rattle.record_words.specs.Words.{monitor_in, answer_words};
 ghost use Rattle.host_guests.specs.Calls.{create_of, run_of, show_of};
 ghost use Rattle.host_removal.specs.Calls.{remove_of};
-ghost use Rattle.embed.specs.Lent.{lent, lent_after, part_words};
+ghost use Rattle.record_words.specs.Lent.{lent, lent_after};
+ghost use Rattle.embed.specs.Part.{part_words};
 
 use host_guests::{decide_create, decide_run, decide_show, show_row};
 use host_removal::decide_remove;
-use record_words::{ALL_RECORDS_WORDS, guest_in, monitor_in, put_answer, put_change};
+use record_words::{ALL_RECORDS_WORDS, guest_in, monitor_in, put_answer, put_decision};
 use tables::row_bounds;
 
-// A guest with ranges is created in the lowest slot that is not live.
-pub fn clundip_create_abi2(
+// A guest with ranges is created in the lowest slot that is not live. Its twin is an export of its own in the C interface; create_kind has both.
+#[unsafe(no_mangle)]
+pub extern "C" fn clundip_create_abi2(
     records: &mut [u64; ALL_RECORDS_WORDS],
     frames: &[u32],
     map: &[u32],
@@ -24,7 +26,8 @@ pub fn clundip_create_abi2(
 }
 
 // The same for a guest that knows no ranges.
-pub fn clundip_create_legacy_abi2(
+#[unsafe(no_mangle)]
+pub extern "C" fn clundip_create_legacy_abi2(
     records: &mut [u64; ALL_RECORDS_WORDS],
     frames: &[u32],
     map: &[u32],
@@ -37,18 +40,22 @@ pub fn clundip_create_legacy_abi2(
 }
 
 // The guest in a slot is run.
-pub fn clundip_run_abi2(records: &mut [u64; ALL_RECORDS_WORDS], slot: u64, answer: &mut [u64; 5])
+#[unsafe(no_mangle)]
+pub extern "C" fn clundip_run_abi2(
+    records: &mut [u64; ALL_RECORDS_WORDS],
+    slot: u64,
+    answer: &mut [u64; 5],
+)
     ensures { (frames map : List ℕ) → lent records.new frames map answer.new
         ≡ lent_after (run_of slot) records.old frames map }
 {
     let decision = decide_run(guest_in(records, slot), slot);
-    let change = decision.change;
-    put_change(records, slot, change);
-    put_answer(answer, decision);
+    put_decision(records, slot, decision, answer);
 }
 
 // The guest in a slot is removed.
-pub fn clundip_remove_abi2(
+#[unsafe(no_mangle)]
+pub extern "C" fn clundip_remove_abi2(
     records: &mut [u64; ALL_RECORDS_WORDS],
     frames: &mut [u32],
     map: &mut [u32],
@@ -59,13 +66,12 @@ pub fn clundip_remove_abi2(
         ≡ lent_after (remove_of slot) records.old frames.old map.old }
 {
     let decision = decide_remove(guest_in(records, slot), frames, map, slot);
-    let change = decision.change;
-    put_change(records, slot, change);
-    put_answer(answer, decision);
+    put_decision(records, slot, decision, answer);
 }
 
 // The row of the guest in a slot: where it begins in the map table, and how many words it has.
-pub fn clundip_show_abi2(
+#[unsafe(no_mangle)]
+pub extern "C" fn clundip_show_abi2(
     records: &[u64; ALL_RECORDS_WORDS],
     map: &[u32],
     slot: u64,
@@ -99,7 +105,5 @@ fn create_kind(
 {
     let slot = monitor_in(records).free_slot();
     let decision = decide_create(frames, map, slot, legacy);
-    let change = decision.change;
-    put_change(records, slot, change);
-    put_answer(answer, decision);
+    put_decision(records, slot, decision, answer);
 }

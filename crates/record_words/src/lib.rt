@@ -1,5 +1,5 @@
-// The guest records as words that a caller lends, and an answer as five.
-// It rests on records, answers and commands. It makes no call and knows no table.
+// The guest records as words that a caller lends, an answer as five, and, in specs/Lent.antt, what a call leaves of what is lent to it.
+// It rests on records, answers and commands. It makes no call and looks at no table.
 #![tactic(auto)]
 
 mod replies;

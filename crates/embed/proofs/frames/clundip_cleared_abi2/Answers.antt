@@ -1,6 +1,6 @@
 -- What is decided with any record, which is no change of one.
 use Rattle.host_frames.specs.Calls.{cleared_command, cleared_of}
-use Rattle.embed.proofs.LentLaws.{lent_kept}
+use Rattle.record_words.proofs.LentLaws.{lent_kept}
 use mathlib.Core.Path.{refl}
 use Rattle.records.specs.Monitor.{guest_of}
 use Rattle.record_words.specs.Words.{monitor_in}
@@ -8,5 +8,4 @@ use Rattle.embed.proofs.frames.clundip_cleared_abi2.Goals as goal
 
 pub returns : goal.returns
 unfolding cleared_of
-returns c =
-    λ records. lent_kept (cleared_command c.args.frame) records c.args.frames.now c.args.map.now 8 refl (guest_of (monitor_in records) 8) refl _ _ _ (c.decide_cleared.ensures 8 (guest_of (monitor_in records) 8)) _ c.put_answer.ensures refl
+returns c = λ records. lent_kept (cleared_command c.args.frame) _ _ _ refl refl (c.decide_cleared.ensures 8 (guest_of (monitor_in records) 8)) c.put_answer.ensures refl

@@ -15,7 +15,7 @@ use Rattle.commands.specs.declared.decision.Decision.{Decision}
 use Rattle.commands.proofs.CommandLaws.{command_either, applying}
 use Rattle.record_words.specs.Words.{monitor_in, words_after, answer_words}
 use Rattle.record_words.proofs.WordLaws.{records_kept}
-use Rattle.embed.specs.Lent.{lent, lent_after}
+use Rattle.record_words.specs.Lent.{lent, lent_after}
 
 -- what an effect does to the record of its slot
 abbrev change_by : Effect → Change
@@ -38,18 +38,18 @@ unfolding lent_after
 lent_done call w f m z e = rw e
 
 -- any call, decided on the record of its slot
-module _ (k : Command) (w f m : List ℕ) (v : ℕ) (n : v ≡ slot_number k.slot (monitor_in w)) (g : Guest) (e : g ≡ guest_of (monitor_in w) v)
-    (f' m' : List ℕ) (d : Decision) (h : result_with f' m' d ≡ result_of k (view f m v g)) (a' : List ℕ) (told : a' ≡ answer_words (numbers_of d.answer))
+module _ (k : Command) (w f m : List ℕ) {v : ℕ} (n : v ≡ slot_number k.slot (monitor_in w)) {g : Guest} (e : g ≡ guest_of (monitor_in w) v)
+    {f' m' : List ℕ} {d : Decision} (h : result_with f' m' d ≡ result_of k (view f m v g)) {a' : List ℕ} (told : a' ≡ answer_words (numbers_of d.answer))
   where
-    pub lent_put : (w' : List ℕ) → w' ≡ words_after w (with_change (monitor_in w) v d.change) → lent w' f' m' a' ≡ lent_after (performed k) w f m
-    lent_put w' put = rw (put, told) (lent_done (performed k) w f m _ (applying k (state f m (monitor_in w)) v g (result_with f' m' d) n e h))
+    pub lent_put : {w' : List ℕ} → w' ≡ words_after w (with_change (monitor_in w) v d.change) → lent w' f' m' a' ≡ lent_after (performed k) w f m
+    lent_put put = rw (put, told) (lent_done (performed k) w f m _ (applying k (state f m (monitor_in w)) v g (result_with f' m' d) n e h))
 
     -- a change that alters no record leaves every word
     pub lent_unaltered : alters d.change ≡ false → lent w f' m' a' ≡ lent_after (performed k) w f m
-    lent_unaltered same = lent_put w (rw same (sym (records_kept w)))
+    lent_unaltered same = lent_put (rw same (sym (records_kept w)))
 
     -- with no word of the records written
     pub lent_kept : change_by (effect_of k (view f m v g)) ≡ Kept → lent w f' m' a' ≡ lent_after (performed k) w f m
     lent_kept keeps =
         let same : d.change ≡ Kept = ap (λ (r : Result). r.decision.change) h ∙ keeps_record k (view f m v g) keeps in
-        lent_put w (rw same (sym (records_kept w)))
+        lent_unaltered (rw same)

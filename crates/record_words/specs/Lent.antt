@@ -1,10 +1,7 @@
 -- The calls as a program in C or Rust makes them: on words that it lends.
-use Rattle.std.specs.Prelude.{cond, List, [], ◌∷◌, ℕ, eqb, length}
-use Rattle.tables.specs.Row.{bounds_of}
+use Rattle.std.specs.Prelude.{List, ℕ}
 use Rattle.answers.specs.Answer.{numbers_of}
 use Rattle.commands.specs.State.{State, state, Answered}
-use Rattle.records.specs.declared.monitor.Monitor.{Monitor}
-use Rattle.host_guests.specs.Calls.{show_of}
 use Rattle.record_words.specs.Words.{monitor_in, words_after, answer_words}
 
 -- what a caller finds after a call: the words of the records, the frame table, the map table, and the words of the answer
@@ -22,9 +19,3 @@ unfoldable pub lent_after : (State → Answered) → List ℕ → List ℕ → L
 lent_after call w f m =
     let a = call (state f m (monitor_in w)) in
     lent (words_after w a.left.monitor) a.left.frames a.left.map (answer_words (numbers_of a.answer))
-
--- where the part of the map table that show hands back begins, and how many words it has; 0 and 0 where it is empty
-abbrev pub part_words : ℕ → Monitor → List ℕ → List ℕ
-part_words v r m =
-    let n = length (show_of v r m).part in
-    cond (eqb n 0) 0 (bounds_of (length m) v).start ∷ n ∷ []
