@@ -1,5 +1,5 @@
 -- Bytes read behind those held, the text of a stream turn by turn, and the text as a whole.
-use Rattle.std.proofs.Common.{◌≡◌, ℕ, ◌+◌, ◌≤◌, List, [], ◌∷◌, ◌++◌, length, take, ap, sym, ◌∙◌, refl, append_assoc, subst, Option, Some, None, Result, Ok, Err, OnOk}
+use Rattle.std.proofs.Common.{◌≡◌, ℕ, ◌+◌, ◌≤◌, List, [], ◌∷◌, ◌++◌, length, take, ap, sym, ◌∙◌, refl, append_assoc, append-nil, arith, subst, Option, Some, None, Result, Ok, Err, OnOk}
 use mathlib.Core.List.{flatten}
 use lib.Seq.{take-append-add, take-append-le, length-take-le}
 use borrow.Rule.Slice.PartMut.{put_mid, post_of}
@@ -9,7 +9,6 @@ use Rattle.trace_lines.specs.Line.{line_text}
 use Rattle.trace_lines.specs.declared.lines.Line.TheVariants.{First}
 use Rattle.trace.specs.Replay.{Replay, fresh_replay, replay_text, pieces_text, closing}
 use Rattle.trace.specs.Ensured.{Turns}
-use Rattle.trace.specs.declared.session.Turn.{Turn}
 use Rattle.trace.proofs.Whole.{any_pieces, turn_first}
 use Rattle.replay_stream.specs.Stream.{WritesPieces, WritesReplay}
 
@@ -45,31 +44,32 @@ begun start a v = record {
 }
 
 -- a piece is read, and the text of its turn written
-pub turned : {start now left : Replay} {a b v w : Option (List ℕ)} {held input out : List ℕ} {r : Turn} (p : List ℕ) (c x : Option (List ℕ))
-    → OnTheWay start a b v w now held → Consumes b c p → Turns now (held ++ p) left input out r → Appends w x (take r.put out)
-    → OnTheWay start a c v x left (take r.held input)
+pub turned : {start now left : Replay} {a b v w : Option (List ℕ)} {held rest text : List ℕ} (p : List ℕ) (c x : Option (List ℕ))
+    → OnTheWay start a b v w now held → Consumes b c p → Turns now (held ++ p) left rest text → Appends w x text
+    → OnTheWay start a c v x left rest
 unfolding flatten
-turned {now} {left} {a} {b} {v} {w} {held} {input} {out} {r} p c x way more turns text = record {
+turned {now} {left} {a} {b} {v} {w} {held} {rest} {text} p c x way more turns wrote = record {
   done = way.done ++ p;
-  written = way.written ++ take r.put out;
+  written = way.written ++ text;
   read = Consumes-trans a b c way.done p way.read more;
-  wrote = Appends-trans v w x way.written (take r.put out) way.wrote text;
+  wrote = Appends-trans v w x way.written text way.wrote wrote;
   follows = λ qs.
       let (ps, cut, same) = way.follows (p ∷ qs) in
-      (ps, cut ∙ sym (append_assoc way.done p (flatten qs)), same ∙ rw (turn_first now left held p input out r qs turns, append_assoc));
+      (ps, cut ∙ sym (append_assoc way.done p (flatten qs)), same ∙ rw (turn_first now left held p rest text qs turns, append_assoc));
 }
 
 -- the log ends, and the last lines are written
-pub closed : {start now : Replay} {a b v w : Option (List ℕ)} {held : List ℕ} (n : ℕ) (c x : Option (List ℕ))
-    → OnTheWay start a b v w now held → length held ≡ n → Consumes b c [] → IsAtEnd c → Appends w x (closing now.answered n)
+pub closed : {start now : Replay} {a b v w : Option (List ℕ)} {held input : List ℕ} (p : List ℕ) (c x : Option (List ℕ))
+    → OnTheWay start a b v w now held → length p ≡ 0 → Consumes b c p → input ≡ held ++ p → IsAtEnd c → Appends w x (closing now.answered (length input))
     → WritesPieces start a v x
 unfolding flatten
-closed {start} {now} {a} {b} {v} {w} n c x way long none end last =
+closed (y ∷ p) c x way none more behind end last = absurd (omega arith)
+closed {start} {now} {a} {b} {v} {w} {held} [] c x way none more behind end last =
     let (ps, cut, text) = way.follows [] in
-    let same : pieces_text start [] ps ≡ way.written ++ closing now.answered n = text ∙ ap (λ m. way.written ++ closing now.answered m) long in
+    let wrote = rw (behind, append-nil) at last in
     Consumes-whole a c (way.done ++ []) (λ xs. (ps : List (List ℕ)) × (flatten ps ≡ xs) × Appends v x (pieces_text start [] ps))
-    (Consumes-trans a b c way.done [] way.read none) end
-    (ps, cut, subst (Appends v x) (sym same) (Appends-trans v w x way.written (closing now.answered n) way.wrote last))
+    (Consumes-trans a b c way.done [] way.read more) end
+    (ps, cut, subst (Appends v x) (sym text) (Appends-trans v w x way.written (closing now.answered (length held)) way.wrote wrote))
 
 -- behind the first line, the text of the pieces is that of the whole log
 pub whole : (a v w x : Option (List ℕ)) → Appends v w (line_text First) → WritesPieces fresh_replay a w x → WritesReplay a v x

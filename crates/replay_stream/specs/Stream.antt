@@ -1,15 +1,13 @@
 -- What reads and writes of a replay come to, where the bytes that the reader has left and those that the writer holds are known.
-use Rattle.std.specs.Prelude.{◌≡◌, ℕ, List, [], ◌++◌, take, Option, IfSome}
+use Rattle.std.specs.Prelude.{◌≡◌, ℕ, ◌<◌, List, [], ◌++◌, length, Option, IfSome}
 use Rattle.std.specs.Io.KnownBytes.{Consumes, Appends, IsAtEnd}
 use mathlib.Core.List.{flatten}
 use Rattle.trace.specs.Replay.{Replay, replay_text, pieces_text}
-use Rattle.replay_stream.specs.declared.descriptors.Piece.{Piece}
-use Rattle.replay_stream.specs.declared.descriptors.Piece.TheVariants.{End, Filled}
 
--- a read behind some bytes that are held: nothing was left, or the first n bytes of the input are those held and those that were read
-abbrev pub Reads : Option (List ℕ) → Option (List ℕ) → List ℕ → List ℕ → Piece → Type 0
-Reads before after held input End = Consumes before after [] × IsAtEnd after
-Reads before after held input (Filled n) = (p : List ℕ) × Consumes before after p × (take n input ≡ held ++ p)
+-- a read of n bytes, which stand behind those at hand; where there is room, it is of none at the end alone
+abbrev pub Reads : Option (List ℕ) → Option (List ℕ) → List ℕ → List ℕ → ℕ → Type 0
+Reads before after held input n =
+    (p : List ℕ) × (length p ≡ n) × Consumes before after p × (input ≡ held ++ p) × (n ≡ 0 → length held < 6236 → IsAtEnd after)
 
 -- all that a reader had left came in pieces, and a writer holds their text and the last lines behind what it held
 abbrev pub WritesPieces : Replay → Option (List ℕ) → Option (List ℕ) → Option (List ℕ) → Type 0

@@ -1,5 +1,5 @@
 -- After some records of a piece, what is left of it comes to the rest of the outcome; their text has at most 21 bytes for each byte taken.
-use Rattle.std.proofs.Common.{Some, None, Ok, Err, ◌≡◌, ℕ, ◌+◌, ◌*◌, ◌≤◌, Bool, true, false, List, [], ◌∷◌, ◌++◌, length, take, drop, refl, ap, ◌∙◌, append_assoc, append-nil, arith, length-drop, drop-drop}
+use Rattle.std.proofs.Common.{Some, None, Ok, Err, ◌≡◌, ℕ, ◌+◌, ◌*◌, ◌≤◌, Bool, true, false, List, [], ◌∷◌, ◌++◌, length, drop, refl, ap, ◌∙◌, append_assoc, append-nil, arith, length-append, length-drop, drop-drop}
 use lib.Seq.{drop-length}
 use Rattle.answers.specs.Answer.{numbers_of}
 use Rattle.calls.specs.Step.{step}
@@ -8,14 +8,13 @@ use Rattle.trace_records.proofs.DecodeLaws.{record_size}
 use Rattle.trace_lines.proofs.LineLaws.{line_length}
 use Rattle.trace_lines.specs.declared.lines.Line.TheVariants.{Answer}
 use Rattle.trace.specs.Replay.{Replay, Advance, unless_stopped, advance_of, outcome, text_before, outcome_of}
-use Rattle.trace_lines.specs.Puts.{Puts}
 use Rattle.trace.proofs.ReplayLaws.{took, outcome_advances, no_bytes}
 
--- one record, as the code made it: what is kept then, the bytes taken, and the text put behind the first n bytes of the buffer
-pub record Advances (a : Advance) (left : Replay) (before : List ℕ) (n : ℕ) (after : List ℕ) (taken put : ℕ) : Type 0 where
+-- one record, as the code made it: what is kept then, the bytes taken, and the text put behind that before
+pub record Advances (a : Advance) (left : Replay) (before after : List ℕ) (taken : ℕ) : Type 0 where
   pub keeps : left ≡ a.left
   pub takes : taken ≡ a.taken
-  pub puts : Puts before n a.text after put
+  pub puts : after ≡ before ++ a.text
 
 -- with n bytes taken and this text put, what is left comes to what all would have come to
 abbrev pub Continues : Replay → List ℕ → Replay → ℕ → List ℕ → Type 0
@@ -35,10 +34,10 @@ continues_more start r s text n h =
     ∙ rw (drop-drop (advance_of r (drop n s)).taken n s, append_assoc)
 
 -- one record more, as the code made it
-pub advance_continues : (start r left : Replay) (s before now : List ℕ) (n p t q : ℕ) → Continues start s r n (take p before)
-    → Advances (advance_of r (drop n s)) left before p now t q
-    → Continues start s left (n + t) (take q now)
-advance_continues start r left s before now n p t q h a = rw (a.keeps, a.takes, a.puts.holds) (continues_more start r s (take p before) n h)
+pub advance_continues : (start r left : Replay) (s before now : List ℕ) (n t : ℕ) → Continues start s r n before
+    → Advances (advance_of r (drop n s)) left before now t
+    → Continues start s left (n + t) now
+advance_continues start r left s before now n t h a = rw (a.keeps, a.takes, a.puts) (continues_more start r s before n h)
 
 -- a record has five bytes at least, and its line 105 at the most
 text_by : (b : Bool) (r : Replay) (s : List ℕ) (d : Decoded) → decode_of s ≡ d → length (unless_stopped b r s d).text ≤ 21 * (unless_stopped b r s d).taken
@@ -54,12 +53,13 @@ unfolding advance_of
 text_length r s = text_by r.stopped r s (decode_of s) refl
 
 -- how far it gets
-pub advance_within : (r left : Replay) (s before now : List ℕ) (n p t q : ℕ) → n ≤ length s → p ≤ 21 * n
-    → Advances (advance_of r (drop n s)) left before p now t q
-    → (n + t ≤ length s) × (q ≤ 21 * (n + t))
-advance_within r left s before now n p t q h k a =
+pub advance_within : (r left : Replay) (s before now : List ℕ) (n t : ℕ) → n ≤ length s → length before ≤ 21 * n
+    → Advances (advance_of r (drop n s)) left before now t
+    → (n + t ≤ length s) × (length now ≤ 21 * (n + t))
+advance_within r left s before now n t h k a =
     let room = (took r (drop n s)).0 in
-    (omega (arith, length-drop n s, a.takes), omega (arith, text_length r (drop n s), a.puts.count, a.takes))
+    let long : length now ≡ length before + length (advance_of r (drop n s)).text = rw a.puts (length-append before (advance_of r (drop n s)).text) in
+    (omega (arith, length-drop n s, a.takes), omega (arith, text_length r (drop n s), a.takes))
 
 -- where there is nothing more to answer, this is the outcome
 pub continues_end : (start left : Replay) (s text : List ℕ) (n : ℕ) → Continues start s left n text → outcome_of left (drop n s) ≡ outcome [] left (drop n s)

@@ -1,5 +1,5 @@
 -- Whole logs: the text of one that comes in pieces, and worked logs.
-use Rattle.std.proofs.Common.{◌≡◌, ℕ, List, [], ◌∷◌, ◌++◌, take, refl}
+use Rattle.std.proofs.Common.{◌≡◌, ℕ, List, [], ◌∷◌, ◌++◌, refl}
 use mathlib.Core.List.{flatten}
 use Rattle.runs.specs.Worked.{AsExpected}
 use Rattle.words.specs.MapWord.{map_bits, map_word_of}
@@ -25,7 +25,6 @@ use Rattle.trace_lines.specs.Line.{numeral, decimal, line_text}
 use Rattle.trace_lines.specs.declared.lines.Line.TheVariants.{First}
 use Rattle.trace.specs.Replay.{Replay, advance_of, outcome_of, fresh_replay, replay_text, pieces_text}
 use Rattle.trace.specs.Ensured.{Turns}
-use Rattle.trace.specs.declared.session.Turn.{Turn}
 use Rattle.trace.specs.Cases.{cases}
 use Rattle.trace.proofs.ReplayLaws.{no_bytes}
 use Rattle.trace.proofs.PieceLaws.{pieces_joined}
@@ -36,9 +35,9 @@ unfolding replay_text
 any_pieces ps = rw (pieces_joined ps fresh_replay [] (no_bytes fresh_replay))
 
 -- A turn on the bytes held and a piece behind them is one step: its text, and then the text of the pieces that follow.
-pub turn_first : (start left : Replay) (held p input out : List ℕ) (r : Turn) (ps : List (List ℕ)) → Turns start (held ++ p) left input out r
-    → pieces_text start held (p ∷ ps) ≡ take r.put out ++ pieces_text left (take r.held input) ps
-turn_first start left held p input out r ps h = rw h.comes_to
+pub turn_first : (start left : Replay) (held p rest text : List ℕ) (ps : List (List ℕ)) → Turns start (held ++ p) left rest text
+    → pieces_text start held (p ∷ ps) ≡ text ++ pieces_text left rest ps
+turn_first start left held p rest text ps h = rw h.comes_to
 
 -- document 01's example, whole and in pieces, the empty input, logs that are bad and cut short, one at the bounds, and one of a legacy guest
 pub log_cases : AsExpected cases

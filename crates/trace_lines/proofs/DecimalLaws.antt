@@ -14,7 +14,6 @@ use mir.Syntax.{w64}
 use mir.Val.{Fits}
 use Rattle.io.specs.Digits.{last_digits, IsDigitCount}
 use Rattle.trace_lines.specs.Line.{digit, numeral, decimal, cell}
-use Rattle.trace_lines.specs.Puts.{Puts}
 
 -- a numeral is no longer than its fuel
 numeral_short_by : (t : Bool) (k d e : ℕ) (l : List ℕ) → length l ≤ k → length (cond t (d ∷ []) (l ++ (e ∷ []))) ≤ suc k
@@ -38,8 +37,11 @@ decimal_digit n h = rw (lt-ltb n 10 h)
 pub cell_short : (x e : ℕ) → length (cell x e) ≤ 21
 cell_short x e = omega (arith, length-append (decimal x) (e ∷ []), decimal_short x)
 
-pub after_cell : (x e : ℕ) {b a : List ℕ} {n r : ℕ} → Puts b n (cell x e) a r → r ≤ n + 21
-after_cell x e p = omega (arith, cell_short x e)
+pub after_decimal : (b : List ℕ) (x : ℕ) → length (b ++ decimal x) ≤ length b + 20
+after_decimal b x = omega (arith, length-append b (decimal x), decimal_short x)
+
+pub after_cell : (b : List ℕ) (x e : ℕ) → length (b ++ cell x e) ≤ length b + 21
+after_cell b x e = omega (arith, length-append b (cell x e), cell_short x e)
 
 -- a number of 64 bits has at most 20 digits
 digits_few_by : (n k : ℕ) → Fits w64 n → (1 < k → 10 ^ (k - 1) ≤ n) → (b : Bool) → leb k 20 ≡ b → k ≤ 20

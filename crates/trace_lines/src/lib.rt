@@ -1,9 +1,9 @@
-// The lines that a replay writes, put into a buffer one behind the other.
+// The lines that a replay writes, put into a text one behind the other.
 // It rests on answers for the numbers of an answer, and on io for the digits of a number. It writes nothing out.
 #![tactic(auto)]
 
+mod buffer;
 mod lines;
-mod puts;
 
-pub use lines::Line;
-pub use puts::ROOM;
+pub use buffer::Buffer;
+pub use lines::{Line, Text};

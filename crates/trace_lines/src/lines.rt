@@ -1,12 +1,17 @@
-ghost use Rattle.std.specs.Prelude.{◌+◌, ◌≤◌};
-ghost use Rattle.trace_lines.specs.Line.{answer_text, line_text, text_put};
-ghost use Rattle.trace_lines.specs.Puts.{Puts};
+ghost use Rattle.std.specs.Prelude.{◌≡◌, ◌++◌, ◌+◌, ◌≤◌, length};
+ghost use Rattle.trace_lines.specs.Line.{cell, decimal, text_put};
 
-use crate::puts::{ROOM, put_bytes, put_cell};
+use crate::buffer::Buffer;
 use answers::Numbers;
+
+// The bytes that a text can have at the most.
+const ROOM: usize = 131072;
 
 // The bytes of the longest line: five numbers of 20 digits, each with the byte behind it.
 const LONGEST: usize = 105;
+
+// The lines of a replay, one behind the other.
+pub type Text = Buffer<ROOM>;
 
 // A line of a replay's output.
 #[derive(Clone, Copy)]
@@ -22,46 +27,53 @@ pub enum Line {
 }
 
 impl Line {
-    // Puts the line into the buffer behind the first `at` bytes, and answers how many there are then. Where there is no room for the
-    // longest line it puts nothing.
-    pub fn put(self, out: &mut [u8; ROOM], at: usize) -> usize
-        ensures { Puts out.old at (text_put at self) out.new result }
+    // Puts the line behind what is there. Where there is no room for the longest line it puts nothing.
+    #[tactic(auto, using(crate::proofs::DecimalLaws::after_cell))]
+    pub fn put(self, text: &mut Text)
+        ensures { text.new ≡ text.old ++ text_put (length text.old) self }
     {
-        if at <= ROOM - LONGEST {
-            return self.put_text(out, at);
+        if ROOM - LONGEST < text.as_slice().len() {
+            return;
         }
-        at
-    }
-
-    // The same where there is room.
-    fn put_text(self, out: &mut [u8; ROOM], at: usize) -> usize
-        requires { at + 105 ≤ 131072 }
-        ensures { Puts out.old at (line_text self) out.new result }
-    {
         match self {
-            Line::First => put_bytes(
-                out,
-                at,
-                &[b'm', b'o', b'n', b'i', b't', b'o', b'r', b' ', b'1', b'\n'],
-            ),
-            Line::Answer(numbers) => put_answer(out, at, numbers),
-            Line::Bad => put_bytes(out, at, &[b'b', b'a', b'd', b'\n']),
+            Line::First => text.put_bytes(b"monitor 1\n"),
+            Line::Answer(numbers) => {
+                put_cell(text, numbers.verdict, b' ');
+                put_cell(text, numbers.v0, b' ');
+                put_cell(text, numbers.v1, b' ');
+                put_cell(text, numbers.v2, b' ');
+                put_cell(text, numbers.v3, b'\n');
+            }
+            Line::Bad => text.put_bytes(b"bad\n"),
             Line::Last(answered) => {
-                let next = put_bytes(out, at, &[b'e', b'n', b'd', b' ']);
-                put_cell(out, next, answered, b'\n')
+                text.put_bytes(b"end ");
+                put_cell(text, answered, b'\n');
             }
         }
     }
 }
 
-// The verdict and v0 to v3 in one line.
-fn put_answer(out: &mut [u8; ROOM], at: usize, numbers: Numbers) -> usize
-    requires { at + 105 ≤ 131072 }
-    ensures { Puts out.old at (answer_text numbers) out.new result }
+// Puts a number in decimals, and one byte behind it.
+#[tactic(auto, using(crate::proofs::DecimalLaws::after_decimal))]
+fn put_cell(text: &mut Text, number: u64, end: u8)
+    requires { length text.old + 21 ≤ 131072 }
+    ensures { text.new ≡ text.old ++ cell number end }
 {
-    let a = put_cell(out, at, numbers.verdict, b' ');
-    let b = put_cell(out, a, numbers.v0, b' ');
-    let c = put_cell(out, b, numbers.v1, b' ');
-    let d = put_cell(out, c, numbers.v2, b' ');
-    put_cell(out, d, numbers.v3, b'\n')
+    put_decimal(text, number);
+    text.put_byte(end);
+}
+
+// Most numbers of an answer have one digit. `write!` says nothing of when it succeeds, so it can't stand here.
+#[tactic(auto, using(crate::proofs::DecimalLaws::decimal_digit, crate::proofs::DecimalLaws::digits_decimal))]
+fn put_decimal(text: &mut Text, number: u64)
+    requires { length text.old + 20 ≤ 131072 }
+    ensures { text.new ≡ text.old ++ decimal number }
+{
+    if number < 10 {
+        text.put_byte(b'0' + number as u8);
+        return;
+    }
+    let mut digits = [0u8; 20];
+    let count = io::decimal(number, &mut digits);
+    text.put_bytes(&digits[..count]);
 }

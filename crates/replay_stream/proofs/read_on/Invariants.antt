@@ -1,13 +1,12 @@
--- Few bytes are held, and the stream is on its way from what the reader had left and the writer held at first.
-use Rattle.std.proofs.Common.{◌≡◌, ◌<◌, length, take}
+-- Few bytes are at hand, and the stream is on its way from what the reader had left and the writer held at first.
+use Rattle.std.proofs.Common.{◌<◌, length}
 use Rattle.trace.specs.Ensured.{kept}
 use Rattle.replay_stream.proofs.StreamLaws.{OnTheWay}
 use Rattle.replay_stream.proofs.read_on.Given as goal
 
 abbrev pub invariant-loop : goal.invariant-loop
 invariant-loop g l =
-    (l.held < 37)
-    × (length l.input ≡ 6236)
+    (length l.input < 37)
     × OnTheWay
     (kept l.initial.session l.initial.frames l.initial.map)
     (g.R.Read.remaining l.initial.from)
@@ -15,4 +14,4 @@ invariant-loop g l =
     (g.W.Write.contents l.initial.to)
     (g.W.Write.contents l.to)
     (kept l.session l.frames l.map)
-    (take l.held l.input)
+    l.input

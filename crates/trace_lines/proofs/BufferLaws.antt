@@ -1,0 +1,15 @@
+-- The bytes of a buffer behind the first ones, moved to the front.
+use Rattle.std.proofs.Common.{◌≡◌, ℕ, ◌+◌, ◌-◌, ◌≤◌, min, List, length, take, drop, sym, ap, ◌∙◌, arith, length-drop}
+use lib.Seq.{paste, length-take-le}
+use Rattle.std.proofs.lemmas.List.{drop-take, drop_min}
+use Rattle.std.proofs.lemmas.List.Edits.{take-paste}
+
+pub moved : (b : List ℕ) (f n t : ℕ) → f ≤ length b → t ≡ min n f → take (f - t) (paste b 0 (drop t b) (f - t)) ≡ drop n (take f b)
+moved b f n t h e =
+    let k : ℕ = f - t in
+    let front : k ≡ 0 + k = omega arith in
+    let whole : t + k ≡ f = omega (arith, e) in
+    ap (λ m. take m (paste b 0 (drop t b) k)) front
+    ∙ take-paste b 0 (drop t b) k (omega arith) (omega (arith, length-drop t b))
+    ∙ sym (drop-take t k b)
+    ∙ rw (whole, e) (rw (length-take-le f b h) at (drop_min n (take f b)))

@@ -1,0 +1,74 @@
+ghost use Rattle.std.specs.Prelude.{◌≡◌, [], ◌∷◌, ◌++◌, ◌+◌, ◌≤◌, ◌<◌, length, drop};
+
+use std::marker::Model;
+
+// Bytes one behind the other, in fixed memory.
+#[derive(Drop)]
+pub struct Buffer<const ROOM: usize> {
+    pub bytes: [u8; ROOM],
+    pub filled: usize,
+}
+
+impl<const ROOM: usize> Model for Buffer<ROOM> {
+    ghost use Rattle.std.specs.Prelude.{◌≡◌, ◌≤◌, ℕ, List, length, take};
+
+    ghost Value = { List ℕ };
+
+    ghost view = { λ b. take b.filled b.bytes };
+
+    ghost invariant = { λ b. (b.filled ≤ ROOM) × (length b.bytes ≡ ROOM) };
+}
+
+impl<const ROOM: usize> Buffer<ROOM> {
+    pub fn new() -> Self
+        ensures { result ≡ [] }
+    {
+        Buffer {
+            bytes: [0; ROOM],
+            filled: 0,
+        }
+    }
+
+    pub fn as_slice(&self) -> &[u8]
+        ensures bytes { result.now ≡ self.now }
+        ensures fits { length self.now ≤ ROOM }
+    {
+        &self.bytes[..self.filled]
+    }
+
+    pub fn clear(&mut self)
+        ensures { self.new ≡ [] }
+    {
+        self.filled = 0;
+    }
+
+    // Takes away the first bytes, so many at the most, and moves the others to the front.
+    #[tactic(auto, using(crate::proofs::BufferLaws::moved))]
+    pub fn consume(&mut self, count: usize)
+        ensures { self.new ≡ drop count self.old }
+    {
+        let end = self.filled;
+        let start = count.min(end);
+        self.bytes.copy_within(start..end, 0);
+        self.filled = end - start;
+    }
+
+    pub(crate) fn put_byte(&mut self, byte: u8)
+        requires { length self.old < ROOM }
+        ensures { self.new ≡ self.old ++ byte ∷ [] }
+    {
+        self.bytes[self.filled] = byte;
+        self.filled += 1;
+    }
+
+    pub(crate) fn put_bytes(&mut self, bytes: &[u8])
+        requires { length self.old + length bytes.now ≤ ROOM }
+        ensures { self.new ≡ self.old ++ bytes.now }
+    {
+        let start = self.filled;
+        let end = start + bytes.len();
+        let all = &mut self.bytes[..];
+        all[start..end].copy_from_slice(bytes);
+        self.filled = end;
+    }
+}
