@@ -24,7 +24,7 @@ pub enum Answer {
     NoFreeSlot,
     // A frame is not waiting to be cleared.
     NotWaiting,
-    // A firmware register is refused with this number.
+    // A firmware register is refused with this number. It stays a number: `numbers_of` answers for each, as document 01's verdict 9 does.
     RegisterRefused(i64),
     // Control returns to the guest with these registers.
     Return { r0: i64, r1: u64, r2: u64, r3: u64 },
@@ -73,11 +73,14 @@ impl Answer {
             r3: 0,
         }
     }
+}
 
-    pub fn numbers(self) -> Numbers
-        ensures { result ≡ numbers_of self }
-    {
-        match self {
+impl From<Answer> for Numbers {
+    ghost from_gives = { λ answer r. r ≡ numbers_of answer };
+
+    #[tactic(auto, unfolding(crate::specs::Answer::numbers_of))]
+    fn from(answer: Answer) -> Numbers {
+        match answer {
             Answer::Done(value) => Numbers::with(0, value, 0),
             Answer::BadLength => Numbers::with(1, 0, 0),
             Answer::NoGuest => Numbers::with(2, 0, 0),

@@ -17,7 +17,7 @@ pub(crate) fn share_of_65(rt: &impl Print) -> io::Result<()> {
     report(
         rt,
         "share 0x0 for 65",
-        found.numbers(),
+        Numbers::from(found),
         returned(0, 64, 0, 0),
     )?;
     let second = share(first.monitor, &mut frames, &mut map, 0x40000, 1);
@@ -25,7 +25,7 @@ pub(crate) fn share_of_65(rt: &impl Print) -> io::Result<()> {
     report(
         rt,
         "then share 0x40000 for 1",
-        found.numbers(),
+        Numbers::from(found),
         returned(0, 1, 0, 0),
     )
 }
@@ -41,7 +41,7 @@ pub(crate) fn published_uid(rt: &impl Print) -> io::Result<()> {
     report(
         rt,
         "UID 28b46fb6-2ec5-11e9-a9ca-4b564d003a74",
-        found.numbers(),
+        Numbers::from(found),
         returned(w[0], w[1], w[2], w[3]),
     )
 }

@@ -4,6 +4,7 @@ ghost use Rattle.records.specs.Change.{with_change};
 ghost use Rattle.record_words.specs.Words.{monitor_in, words_after, answer_words};
 
 use crate::slots::{ALL_RECORDS_WORDS, put_change};
+use answers::Numbers;
 use commands::Decision;
 
 // Makes the change that a call decided of the record of its slot, and writes its answer.
@@ -26,7 +27,7 @@ pub fn put_decision(
 pub fn put_answer(words: &mut [u64; 5], decision: Decision)
     ensures { words.new ≡ answer_words (numbers_of decision.answer) }
 {
-    let numbers = decision.answer.numbers();
+    let numbers = Numbers::from(decision.answer);
     *words = [
         numbers.verdict,
         numbers.v0,

@@ -16,7 +16,7 @@ pub fn guest_in(words: &[u64; ALL_RECORDS_WORDS], slot: u64) -> Guest
     if slot < 8 {
         let start = GUEST_WORDS * (slot as usize);
         let own = words[start..].first_chunk::<GUEST_WORDS>().unwrap();
-        Guest::of_words(*own)
+        Guest::from(*own)
     } else {
         Guest::zero()
     }
@@ -41,8 +41,8 @@ pub fn put_change(words: &mut [u64; ALL_RECORDS_WORDS], slot: u64, change: Chang
         return;
     }
     let guest = guest_in(words, slot);
-    let own = change.apply(guest).words();
-    if guest.words() != own {
+    let own = <[u64; GUEST_WORDS]>::from(change.apply(guest));
+    if <[u64; GUEST_WORDS]>::from(guest) != own {
         let at = GUEST_WORDS * (slot as usize);
         words[at..at + GUEST_WORDS].copy_from_slice(&own);
     }

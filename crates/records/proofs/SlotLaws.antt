@@ -1,36 +1,52 @@
--- The free slot, by a look at one slot after another.
-use mathlib.Core.Path.{◌≡◌, sym, ◌∙◌}
-use mathlib.Core.Bool.{true, false, cond}
-use Prim.Native.Nat.{ℕ, suc, ◌+◌, ◌-◌, ◌<◌, ◌≤◌}
+-- The free slot is the place of the first record that is not live, or 8.
+use mathlib.Core.Path.{◌≡◌, refl, sym, ◌∙◌}
+use mathlib.Core.Bool.{Bool, true, false, cond, not}
+use mathlib.Core.List.{List, [], ◌∷◌}
+use Prim.Native.Nat.{ℕ, suc, ◌+◌, ◌<◌}
+use native.Mathlib.Nat.{zero-add}
 use native.Mathlib.Omega.{arith}
-use Rattle.records.specs.Monitor.{guest_of, free_from, free_slot}
+use borrow.Author.Tests.{lt-ltb, ltb-false}
+use lib.ListN.{length, get_or}
+use lib.Dec.{ltb}
+use Rattle.std.specs.Prelude.{Some, None}
+use Rattle.std.specs.Option.{unwrap_or}
+use Rattle.std.specs.List.{position_or_len}
+use Rattle.std.proofs.lemmas.List.Sums.{prefix_len-le-length}
+use Rattle.records.specs.Monitor.{zero_guest, guest_of, free_from, free_slot}
 use Rattle.records.specs.declared.guest.Guest.{Guest}
 use Rattle.records.specs.declared.monitor.Monitor.{Monitor}
 
--- the slots from v on: slot v is looked at first
-from_here : (m : Monitor) (v : ℕ) → v < 8 → free_from m v (8 - v) ≡ cond (guest_of m v).live (free_from m (v + 1) (8 - (v + 1))) v
+-- the records from slot v on
+from_here : (m : Monitor) (v : ℕ) (gs : List Guest) → ((i : ℕ) → i < length gs → guest_of m (v + i) ≡ get_or gs i zero_guest)
+    → free_from m v (length gs) ≡ v + position_or_len (λ g. not g.live) gs
 unfolding free_from
-from_here m v h =
-    let n : 8 - v ≡ suc (7 - v) = omega arith in
-    let k : 8 - (v + 1) ≡ 7 - v = omega arith in
-    let s : suc v ≡ v + 1 = omega arith in
-    rw (n, k, s)
+from_here m v [] e = omega arith
+from_here m v (g ∷ gs) e =
+    let same : v + 0 ≡ v = omega arith in
+    let here : guest_of m v ≡ g = rw same at (e 0 (omega arith)) in
+    let later : free_from m (suc v) (length gs) ≡ suc v + position_or_len (λ g. not g.live) gs
+    = from_here m (suc v) gs (λ i h. let next : suc v + i ≡ v + suc i = omega arith in rw next (e (suc i) (omega arith))) in
+    rw here (go g.live later)
+  where
+    go : (l : Bool) → free_from m (suc v) (length gs) ≡ suc v + position_or_len (λ g. not g.live) gs
+        → cond l (free_from m (suc v) (length gs)) v ≡ v + cond (not (not l)) (1 + position_or_len (λ g. not g.live) gs) 0
+    go true later = omega (arith, later)
+    go false later = omega arith
 
-none_left : (m : Monitor) (v n : ℕ) → n ≡ 0 → free_from m v n ≡ v
-unfolding free_from
-none_left m v n e = rw e
+pub lowest_free : (m : Monitor) → length m.guests ≡ 8
+    → unwrap_or (cond (ltb (position_or_len (λ g. not g.live) m.guests) (length m.guests)) (Some (position_or_len (λ g. not g.live) m.guests)) None) 8
+    ≡ free_slot m
+unfolding guest_of
+lowest_free m e = go (ltb place (length m.guests)) refl
+  where
+    place : ℕ
+    place = position_or_len (λ g. not g.live) m.guests
 
--- the slots before v are live
-module _ (m : Monitor) (v : ℕ) (e : free_slot m ≡ free_from m v (8 - v)) where
-  pub all_live_lem : 8 ≤ v → v ≡ free_slot m
-  all_live_lem h = sym (e ∙ none_left m v (8 - v) (omega arith))
+    found : free_slot m ≡ place
+    found =
+        let whole : free_slot m ≡ 0 + place = rw e at (from_here m 0 m.guests (λ i h. rw (zero-add i, lt-ltb i 8 (omega (arith, e))))) in
+        whole ∙ zero-add place
 
-  module _ (h : v < 8) (g : Guest) (s : g ≡ guest_of m v) where
-    slot_here : free_slot m ≡ cond g.live (free_from m (v + 1) (8 - (v + 1))) v
-    slot_here = rw s (e ∙ from_here m v h)
-
-    pub free_here : g.live ≡ false → v ≡ free_slot m
-    free_here f = sym (rw f at slot_here)
-
-    pub free_later : g.live ≡ true → free_slot m ≡ free_from m (v + 1) (8 - (v + 1))
-    free_later l = rw l at slot_here
+    go : (b : Bool) → ltb place (length m.guests) ≡ b → unwrap_or (cond b (Some place) None) 8 ≡ free_slot m
+    go true q = sym found
+    go false q = omega (arith, e, found, ltb-false place (length m.guests) q, prefix_len-le-length (λ g. not (not g.live)) m.guests)

@@ -4,17 +4,17 @@ ghost use Rattle.records.specs.Change.{bitmap_of, with_bitmap, changed, alters};
 use crate::guest::Guest;
 
 // The firmware registers, in the order of their numbers.
-#[derive(Clone, Copy)]
+#[derive(Clone, Copy, PartialEq, Eq)]
 pub enum FirmwareRegister {
     Std,
     StdHyp,
     VendorHyp,
-    // The number belongs to no register.
+    // The number belongs to no register. A value and no error: `bitmap_of` answers 0 for it.
     Unknown,
 }
 
 // What a call does to the record of its slot.
-#[derive(Clone, Copy)]
+#[derive(Clone, Copy, PartialEq, Eq)]
 pub enum Change {
     Kept,
     // With the kind of the guest.
@@ -44,22 +44,22 @@ impl FirmwareRegister {
     }
 
     // The record with the bitmap put in. Nothing else changes.
-    fn with_bitmap(self, mut guest: Guest, value: u64) -> Guest
+    fn with_bitmap(self, guest: Guest, value: u64) -> Guest
         ensures { result ≡ with_bitmap self value guest }
     {
         match self {
-            FirmwareRegister::Std => {
-                guest.std = value;
-                guest
-            }
-            FirmwareRegister::StdHyp => {
-                guest.std_hyp = value;
-                guest
-            }
-            FirmwareRegister::VendorHyp => {
-                guest.vendor_hyp = value;
-                guest
-            }
+            FirmwareRegister::Std => Guest {
+                std: value,
+                ..guest
+            },
+            FirmwareRegister::StdHyp => Guest {
+                std_hyp: value,
+                ..guest
+            },
+            FirmwareRegister::VendorHyp => Guest {
+                vendor_hyp: value,
+                ..guest
+            },
             FirmwareRegister::Unknown => guest,
         }
     }
@@ -70,42 +70,28 @@ impl Change {
     pub fn alters(self) -> bool
         ensures { result ≡ alters self }
     {
-        match self {
-            Change::Kept => false,
-            Change::Created { legacy: _ } => true,
-            Change::Removed => true,
-            Change::Run => true,
-            Change::Enrolled => true,
-            Change::Written {
-                register: _,
-                value: _,
-            } => true,
-        }
+        !matches!(self, Change::Kept)
     }
 
     // The record that it leaves. A guest just created has every field set anew, the bitmaps to their limits; a legacy guest counts as enrolled.
-    pub fn apply(self, mut guest: Guest) -> Guest
+    pub fn apply(self, guest: Guest) -> Guest
         ensures { result ≡ changed self guest }
     {
         match self {
             Change::Kept => guest,
-            Change::Created { legacy } => {
-                let mut created = Guest::zero();
-                created.live = true;
-                created.legacy = legacy;
-                created.enrolled = legacy;
-                created.vendor_hyp = 1;
-                created
-            }
+            Change::Created { legacy } => Guest {
+                live: true,
+                legacy,
+                enrolled: legacy,
+                vendor_hyp: 1,
+                ..Guest::zero()
+            },
             Change::Removed => Guest::zero(),
-            Change::Run => {
-                guest.run = true;
-                guest
-            }
-            Change::Enrolled => {
-                guest.enrolled = true;
-                guest
-            }
+            Change::Run => Guest { run: true, ..guest },
+            Change::Enrolled => Guest {
+                enrolled: true,
+                ..guest
+            },
             Change::Written { register, value } => register.with_bitmap(guest, value),
         }
     }

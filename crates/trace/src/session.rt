@@ -4,6 +4,7 @@ ghost use Rattle.calls.specs.Step.{command_of};
 ghost use Rattle.trace.specs.Replay.{fresh_replay, closing};
 ghost use Rattle.trace.specs.Ensured.{kept, Answers, Replays, Turns};
 
+use answers::Numbers;
 use calls::Call;
 use records::{Change, Guest, Monitor};
 use trace_lines::{Buffer, Line, Text};
@@ -121,6 +122,6 @@ fn answer(
         text.old text.new result }
 {
     let decision = call.decide(slot, guest, frames, map);
-    Line::Answer(decision.answer.numbers()).put(text);
+    Line::Answer(Numbers::from(decision.answer)).put(text);
     decision.change
 }

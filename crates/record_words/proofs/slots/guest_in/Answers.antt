@@ -12,7 +12,7 @@ unfolding guest_at
 returns-then-slot-lt8 c =
     let entry = c.args in
     let own = rw c.unwrap-own.ensures at c.first_chunk.ensures.cases in
-    c.of_words.ensures
+    c.from.ensures
     ∙ ap guest_in (own.same ∙ take-take guest_length _ (words_from entry.words.now entry.slot) (omega arith))
     ∙ sym (guest_there entry.words.now entry.slot c.if-slot-lt8.true)
 

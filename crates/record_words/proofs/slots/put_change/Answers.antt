@@ -12,10 +12,10 @@ returns-then-ne c =
     let entry = c.args in
     rw c.copy_from_slice.ensures.after
     (change_written entry.words.now entry.slot entry.change c.if-slot-ge8.false
-    _ c.guest_in-guest.ensures _ c.apply.ensures _ _ c.words.ensures c.words-own.ensures (search rules) _ (omega arith))
+    _ c.guest_in-guest.ensures _ c.apply.ensures _ _ c.from.ensures c.from-own.ensures (search rules) _ (omega arith))
 
 pub returns-else-ne : goal.returns-else-ne
 returns-else-ne c =
     let entry = c.args in
     change_same entry.words.now entry.slot entry.change c.if-slot-ge8.false
-    _ c.guest_in-guest.ensures _ c.apply.ensures _ _ c.words.ensures c.words-own.ensures (search rules)
+    _ c.guest_in-guest.ensures _ c.apply.ensures _ _ c.from.ensures c.from-own.ensures (search rules)

@@ -5,4 +5,4 @@ use Rattle.rows.proofs.writes.free_frame.Goals as goal
 
 pub returns-then-frame-frames : goal.returns-then-frame-frames
 unfolding frame_bits
-returns-then-frame-frames c = rw (← c.of.ensures, c.in-Frame.is) (refl, refl)
+returns-then-frame-frames c = rw (← c.from.ensures, c.in-Frame.is) (refl, refl)
