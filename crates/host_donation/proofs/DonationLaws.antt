@@ -9,7 +9,7 @@ use Rattle.std.specs.Prelude.{Ok}
 use Rattle.words.proofs.Booleans.{both_true}
 use Rattle.tables.specs.Length.{frames_hold, width_of, map_holds}
 use Rattle.tables.specs.Row.{word_index, bounds_of}
-use Rattle.tables.specs.declared.rows.RowBounds.{RowBounds}
+use Rattle.std.specs.declared.ops.Range.{Range}
 use Rattle.tables.proofs.LengthLaws.{frames_at_most, width_between}
 use Rattle.tables.proofs.RowLaws.{index_inside}
 use Rattle.commands.specs.Tests.{first_refusal, Admission, refusal_by}
@@ -48,7 +48,7 @@ pub record MapIndex (map : List ℕ) (v g i : ℕ) : Type 0 where
   pub inside : i < length map
 
 pub donate_index : (v f g : ℕ) (frames map : List ℕ) (guest : Guest) (x : Admission) → refusal_by x ≡ first_refusal (tests_of (donate_command v f g) (view frames map v guest)) → x ≡ Ok tt
-    → (r : RowBounds) → r ≡ bounds_of (length map) v → MapIndex map v g (r.start + g)
+    → (r : Range ℕ) → r ≡ bounds_of (length map) v → MapIndex map v g (r.start + g)
 donate_index v f g frames map guest x t p r e =
     let n = donate_in_range v f g frames map guest x t p in
     let at = index_inside map v g r e n.slot n.granule in
