@@ -1,59 +1,37 @@
 -- A pass over a row: what the definitions say of the words from number i on, by the word at i and the words after it.
 use mathlib.Core.Path.{◌≡◌, refl, sym, ap, ◌∙◌}
-use mathlib.Core.Bool.{true, false, ◌&&◌}
+use mathlib.Core.Bool.{◌&&◌}
 use mathlib.Core.List.{List, [], ◌∷◌, ◌++◌}
 use Prim.Native.Nat.{ℕ, suc, ◌+◌, ◌<◌, ◌≤◌}
 use native.Mathlib.Nat.{zero-add}
 use native.Mathlib.Omega.{arith}
-use borrow.Author.Tests.{eq-eqb, ne_eqb}
 use lib.ListN.{length, get_or, drop, take, set, length-set, drop_of_length-le, replicate-append-replicate}
 use lib.Seq.{drop-cons, take_all, take-suc-set, drop-set-lt}
+use lib.Dec.{eqb}
+use Rattle.std.specs.List.{list_all, enumerate_from}
 use Rattle.words.specs.MapWord.{map_bits, map_word_of}
 use Rattle.words.specs.declared.map_word.MapWord.{MapWord}
 use Rattle.words.specs.declared.map_word.MapWord.TheVariants as map-word
 use Rattle.pairs.specs.Pair.{granule_state, granule_undamaged}
-use Rattle.pairs.specs.declared.pairs.GranuleState.{GranuleState}
-use Rattle.pairs.specs.declared.pairs.GranuleState.TheVariants as granule-state
-use Rattle.rows.specs.WholeRow.{row_vacant, undamaged_from, row_undamaged, vacant_row, frame_freed, frames_freed, frame_named, frames_named}
+use Rattle.rows.specs.WholeRow.{row_vacant, undamaged_from, vacant_row, frame_freed, frames_freed, frame_named, frames_named}
 
 word_and_rest : (row : List ℕ) (i : ℕ) → i < length row → drop i row ≡ get_or row i 0 ∷ drop (i + 1) row
 word_and_rest row i h = let e : suc i ≡ i + 1 = omega arith in rw e at (drop-cons row i 0 h)
 
--- the words before i are vacant
-module _ (row : List ℕ) (i : ℕ) (e : row_vacant row ≡ row_vacant (drop i row)) where
-  pub vacant_all : length row ≤ i → true ≡ row_vacant row
-  unfolding row_vacant
-  vacant_all h = rw (e, drop_of_length-le row h)
+-- every word vacant
+pub vacant_each : (row : List ℕ) → list_all (λ w. eqb w 0) row ≡ row_vacant row
+unfolding row_vacant map_bits
+vacant_each [] = refl
+vacant_each (w ∷ ws) = ap (λ b. eqb w 0 && b) (vacant_each ws)
 
-  pub vacant_not : i < length row → (get_or row i 0 ≡ 0 → ⊥) → false ≡ row_vacant row
-  unfolding row_vacant map_bits
-  vacant_not h n = rw (e, word_and_rest row i h, ne_eqb (get_or row i 0) 0 n)
-
-  pub vacant_more : i < length row → get_or row i 0 ≡ 0 → row_vacant row ≡ row_vacant (drop (i + 1) row)
-  unfolding row_vacant map_bits
-  vacant_more h z = rw (e, word_and_rest row i h, eq-eqb (get_or row i 0) 0 z)
-
--- the words before i are undamaged
-module _ (frames : List ℕ) (v : ℕ) (row : List ℕ) (i : ℕ) (e : row_undamaged frames v row ≡ undamaged_from frames v i (drop i row)) where
-  pub undamaged_all : length row ≤ i → true ≡ row_undamaged frames v row
-  unfolding undamaged_from
-  undamaged_all h = rw (e, drop_of_length-le row h)
-
-  undamaged_here : i < length row → (k : GranuleState) → k ≡ granule_state frames v i (map_word_of (get_or row i 0))
-      → row_undamaged frames v row ≡ granule_undamaged k && undamaged_from frames v (i + 1) (drop (i + 1) row)
-  unfolding undamaged_from
-  undamaged_here h k s = let n : suc i ≡ i + 1 = omega arith in rw (e, word_and_rest row i h, s, n)
-
-  pub undamaged_not : i < length row → (k : GranuleState) → k ≡ granule_state frames v i (map_word_of (get_or row i 0)) → k ≡ granule-state.Damaged
-      → false ≡ row_undamaged frames v row
-  undamaged_not h k s d = sym (rw d at (undamaged_here h k s))
-
-  pub undamaged_more : i < length row → (k : GranuleState) → k ≡ granule_state frames v i (map_word_of (get_or row i 0)) → (k ≡ granule-state.Damaged → ⊥)
-      → row_undamaged frames v row ≡ undamaged_from frames v (i + 1) (drop (i + 1) row)
-  undamaged_more h granule-state.Vacant s n = undamaged_here h _ s
-  undamaged_more h (granule-state.Frame t f) s n = undamaged_here h _ s
-  undamaged_more h granule-state.Guarded s n = undamaged_here h _ s
-  undamaged_more h granule-state.Damaged s n = absurd (n refl)
+-- every granule undamaged, the first of them numbered n
+pub undamaged_each : (frames : List ℕ) (v n : ℕ) (row : List ℕ)
+    → list_all (λ p. granule_undamaged (granule_state frames v p.0 (map_word_of p.1))) (enumerate_from n row) ≡ undamaged_from frames v n row
+unfolding undamaged_from
+undamaged_each frames v n [] = refl
+undamaged_each frames v n (w ∷ ws) =
+    let next : n + 1 ≡ suc n = omega arith in
+    ap (λ b. granule_undamaged (granule_state frames v n (map_word_of w)) && b) (rw (← next) (undamaged_each frames v (n + 1) ws))
 
 -- a word names at most one frame
 named_one : (d : MapWord) → frame_named d ≤ 1
@@ -87,27 +65,31 @@ begun row₀ frames₀ = record {
 }
 
 module _ (row₀ frames₀ row frames : List ℕ) (n i : ℕ) (v : Vacated row₀ frames₀ row frames n i) where
-  pub all : length row ≤ i → (row ≡ vacant_row (length row₀)) × (frames ≡ frames_freed row₀ frames₀) × (n ≡ frames_named row₀)
+  pub all : length row₀ ≤ i → (row ≡ vacant_row (length row₀)) × (frames ≡ frames_freed row₀ frames₀) × (n ≡ frames_named row₀)
   unfolding frames_freed frames_named
-  all h =
+  all l =
+      let h : length row ≤ i = omega (arith, v.rows) in
       let end : i ≡ length row₀ = omega (arith, v.few, v.rows) in
       let none = drop_of_length-le row h in
       let f : frames_freed row₀ frames₀ ≡ frames = rw none at v.freed in
       let c : frames_named row₀ ≡ n + 0 = rw none at v.count in
       (sym (take_all i row h) ∙ v.vacant ∙ rw end, sym f, omega (arith, c))
 
-  module _ (h : i < length row) (frames' : List ℕ) (r : ℕ) where
+  module _ (l : i < length row₀) (frames' : List ℕ) (r : ℕ) where
+    h : i < length row
+    h = omega (arith, v.rows)
+
     pub more : (frames' ≡ frame_freed (map_word_of (get_or row i 0)) frames) × (r ≡ frame_named (map_word_of (get_or row i 0))) → length frames' ≡ length frames
         → Vacated row₀ frames₀ (set row i 0) frames' (n + r) (i + 1)
     unfolding frames_freed frames_named map_bits
-    more p l =
+    more p kept_frames =
         let next : suc i ≡ i + 1 = omega arith in
         let kept : drop (i + 1) (set row i 0) ≡ drop (i + 1) row = drop-set-lt (i + 1) row i 0 (omega arith) in
         let c = rw (word_and_rest row i h) at v.count in
         record {
-          few = simp length-set (omega arith);
+          few = simp length-set (omega (arith, h));
           rows = length-set row i 0 ∙ v.rows;
-          frame_words = l ∙ v.frame_words;
+          frame_words = kept_frames ∙ v.frame_words;
           vacant = rw (← next) (take-suc-set row i 0 h ∙ ap (λ (x : List ℕ). x ++ (0 ∷ [])) v.vacant) ∙ replicate-append-replicate i 1 0;
           freed = v.freed ∙ rw (word_and_rest row i h, kept, p.0);
           count = rw kept (omega (arith, c, p.1));

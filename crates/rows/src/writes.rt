@@ -10,12 +10,10 @@ pub fn vacate(row: &mut [u32], frames: &mut [u32]) -> u64
         × (frames.new ≡ frames_freed row.old frames.old)
         × (result ≡ frames_named row.old) }
 {
-    let mut named: u64 = 0;
-    let mut number: usize = 0;
-    while number < row.len() {
-        named += free_frame(frames, row[number]);
-        row[number] = MapWord::VACANT;
-        number += 1;
+    let mut named = 0;
+    for word in row.iter_mut() {
+        named += free_frame(frames, *word);
+        *word = MapWord::VACANT;
     }
     named
 }
@@ -25,15 +23,12 @@ fn free_frame(frames: &mut [u32], word: u32) -> u64
     ensures { (frames.new ≡ frame_freed (map_word_of word) frames.old) × (result ≡ frame_named (map_word_of word)) }
 {
     match MapWord::from(word) {
-        MapWord::Vacant => 0,
         MapWord::Frame { shared: _, frame } => {
             if frame < frames.len() {
                 frames[frame] = FrameWord::WAITING;
-                return 1;
             }
             1
         }
-        MapWord::Guarded => 0,
-        MapWord::Damaged => 0,
+        MapWord::Vacant | MapWord::Guarded | MapWord::Damaged => 0,
     }
 }
