@@ -1,4 +1,4 @@
-ghost use Rattle.std.specs.Prelude.{◌≡◌, length};
+ghost use Rattle.std.specs.Prelude.{◌≡◌, ◌<◌, ℕ, length, Some, Ok};
 ghost use Rattle.runs.specs.Run.{run};
 ghost use Rattle.words.specs.MapWord.{map_word_of};
 ghost use Rattle.pairs.specs.Pair.{granule_state};
@@ -19,6 +19,7 @@ pub enum StepError {
 }
 
 // One granule of a slot, in the slot's row: its words are compared with those that the operation needs, and written where they are so.
+// Only where they differ is the pair test asked, and then for the reason.
 pub fn change_granule(
     row: &mut [u32],
     frames: &mut [u32],
@@ -36,31 +37,25 @@ pub fn change_granule(
     let needs = operation.needs;
     let makes = operation.makes;
     let word = row[number];
-    match compare(frames, slot, granule, word, needs)? {
-        None => {
-            if makes.has_frame() {
-                return Err(StepError::NotDone);
-            }
-            row[number] = MapWord::of_bare(makes.is_guarded());
-            Ok(())
-        }
-        Some(frame) => {
-            if makes.has_frame() {
-                let from = needs.is_shared();
-                let to = makes.is_shared();
-                row[number] = MapWord::reshared(word, from, to);
-                frames[frame] = FrameWord::reshared(frames[frame], from, to);
-                return Ok(());
-            }
-            row[number] = MapWord::of_bare(makes.is_guarded());
-            frames[frame] = FrameWord::WAITING;
-            Ok(())
-        }
+    let held = compare(frames, slot, granule, word, needs)?;
+    if makes.has_frame() {
+        let Some(frame) = held else {
+            return Err(StepError::NotDone);
+        };
+        let from = needs.is_shared();
+        let to = makes.is_shared();
+        row[number] = MapWord::reshared(word, from, to);
+        frames[frame] = FrameWord::reshared(frames[frame], from, to);
+        return Ok(());
     }
+    row[number] = MapWord::of_bare(makes.is_guarded());
+    if let Some(frame) = held {
+        frames[frame] = FrameWord::WAITING;
+    }
+    Ok(())
 }
 
-// A granule with this map word, compared with one of a kind: its frame, where it has one. Where it is not of the kind, the pair test tells
-// why it is left, and is asked only then.
+// A granule with this map word, compared with one of a kind: the frame that it holds, if any, or why it is left.
 fn compare(
     frames: &[u32],
     slot: usize,
@@ -68,7 +63,8 @@ fn compare(
     word: u32,
     kind: Kind,
 ) -> Result<Option<usize>, StepError>
-    ensures { result ≡ compared kind (granule_state frames.now slot granule.0 (map_word_of word)) }
+    ensures compared { result ≡ compared kind (granule_state frames.now slot granule.0 (map_word_of word)) }
+    ensures inside { (f : ℕ) → result ≡ Ok (Some f) → f < length frames.now }
 {
     if kind.has_frame() {
         if let Some(frame) = compare_frame(frames, slot, granule, word, kind.is_shared()) {
@@ -80,7 +76,7 @@ fn compare(
     Err(refusal(frames, slot, granule, word))
 }
 
-// Why a granule with this map word is left.
+// Why a granule with this map word is left: the pair test tells.
 fn refusal(frames: &[u32], slot: usize, granule: Granule, word: u32) -> StepError
     ensures { result ≡ refusal_of (granule_state frames.now slot granule.0 (map_word_of word)) }
 {

@@ -1,9 +1,8 @@
 -- The loop of a range: the granules so far are done, and the next is done too or ends the range.
 use mathlib.Core.Path.{◌≡◌, refl, sym, ap, ◌∙◌}
 use mathlib.Core.List.{List}
-use Prim.Native.Nat.{ℕ, suc, ◌+◌, ◌-◌, ◌<◌, ◌≤◌, max}
+use Prim.Native.Nat.{ℕ, suc, ◌+◌, ◌-◌, ◌<◌, ◌≤◌}
 use native.Mathlib.Nat.{add-zero}
-use native.Mathlib.Decide.{dec_lt}
 use native.Mathlib.Omega.{arith}
 use lib.ListN.{length}
 use Rattle.std.specs.Prelude.{Ok, Err}
@@ -15,10 +14,9 @@ use Rattle.granules.specs.declared.kinds.Operation.{Operation}
 use Rattle.granules.specs.declared.step.StepError.{StepError}
 use Rattle.granules.specs.declared.step.StepError.TheVariants.{NotDone, Damaged}
 
--- d granules of slot v from g on are done, all in the row, and the words stand as here
+-- d granules of slot v from g on are done, and the words stand as here
 pub record Going (o : Operation) (v : ℕ) (row₀ frames₀ : List ℕ) (g : ℕ) (row frames : List ℕ) (d : ℕ) : Type 0 where
   pub rows : length row ≡ length row₀
-  pub inside : g + d ≤ max g (length row)
   pub so : run (row_step o v (length row₀)) d (place row₀ frames₀ g) ≡ ended d (place row frames (g + d)) complete
 
 -- a step that ends at once ends every run that it begins
@@ -29,17 +27,9 @@ ends_all step n s t r e = on (step s) e
     on (took u) e = let z : ◌≡◌ {A = ℕ} 1 0 = cc in absurd (omega arith)
     on (refuses q) e = e
 
--- a granule that is done is in the row
-done_inside : (o : Operation) (v : ℕ) (row frames row' frames' : List ℕ) (n : ℕ) → run (row_step o v (length row)) 1 (place row frames n) ≡ one_end (Ok tt) row' frames' n → n < length row
-done_inside o v row frames row' frames' n e = go (dec_lt n (length row))
-  where
-    go : Dec (n < length row) → n < length row
-    go (yes h) = h
-    go (no q) = let z : ◌≡◌ {A = ℕ} 1 0 = cc (beyond_row o v n row frames (omega arith)) in absurd (omega arith)
-
 module _ {o : Operation} {v : ℕ} {row₀ frames₀ : List ℕ} {g : ℕ} where
   pub begun : Going o v row₀ frames₀ g row₀ frames₀ 0
-  begun = record { rows = refl; inside = omega arith; so = rw add-zero }
+  begun = record { rows = refl; so = rw add-zero }
 
   module _ {row frames : List ℕ} {d : ℕ} (i : Going o v row₀ frames₀ g row frames d) where
     -- the granules so far, and what is left of the run
@@ -50,9 +40,8 @@ module _ {o : Operation} {v : ℕ} {row₀ frames₀ : List ℕ} {g : ℕ} where
       pub more : run (row_step o v (length row)) 1 (place row frames (g + d)) ≡ one_end (Ok tt) row' frames' (g + d) → length row' ≡ length row
           → Going o v row₀ frames₀ g row' frames' (d + 1)
       more e hr =
-          let here : g + d < length row = done_inside o v row frames row' frames' (g + d) e in
           let next : suc (g + d) ≡ g + (d + 1) = omega arith in
-          record { rows = hr ∙ i.rows; inside = omega (arith, hr); so = left 1 ∙ rw (e, next) }
+          record { rows = hr ∙ i.rows; so = left 1 ∙ rw (e, next) }
 
       halted : (r : Refusal) (limit : ℕ) → d < limit → run (row_step o v (length row)) 1 (place row frames (g + d)) ≡ ended 0 (place row' frames' (g + d)) (refused r)
           → run (row_step o v (length row₀)) limit (place row₀ frames₀ g) ≡ ended d (place row' frames' (g + d)) (refused r)
@@ -67,6 +56,6 @@ module _ {o : Operation} {v : ℕ} {row₀ frames₀ : List ℕ} {g : ℕ} where
       refused_there NotDone limit h e = halted not_done limit h e
       refused_there Damaged limit h e = halted is_damaged limit h e
 
-    -- it came to the limit
-    pub all_done : (limit : ℕ) → d ≡ limit → run (row_step o v (length row₀)) limit (place row₀ frames₀ g) ≡ ended limit (place row frames (g + limit)) complete
-    all_done limit e = rw (← e) i.so
+    -- it came to the row's end
+    pub row_ended : (limit : ℕ) → d < limit → length row ≤ g + d → run (row_step o v (length row₀)) limit (place row₀ frames₀ g) ≡ ended d (place row frames (g + d)) (refused not_done)
+    row_ended limit h b = refused_there NotDone limit h (beyond_row o v (g + d) row frames b)
