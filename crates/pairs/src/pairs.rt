@@ -60,6 +60,7 @@ impl FrameState {
 }
 
 // What a granule of a slot holds, by its map word and the word of the frame that this names.
+// Slot, granule and word are no struct: most callers would make one for this call alone.
 pub fn granule_state(frames: &[u32], slot: usize, granule: Granule, word: u32) -> GranuleState
     ensures { result ≡ granule_state frames.now slot granule.0 (map_word_of word) }
 {
