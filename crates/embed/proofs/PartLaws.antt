@@ -1,14 +1,14 @@
 -- The two words of show name the part of the map table that it hands back.
-use mathlib.Core.Path.{◌≡◌, refl, ap, ◌∙◌}
+use mathlib.Core.Path.{◌≡◌, refl, sym, ap, ◌∙◌}
 use mathlib.Core.Logic.{◌≢◌}
 use mathlib.Core.Bool.{Bool, true, false, cond}
 use mathlib.Core.List.{List, [], ◌∷◌}
 use mathlib.Core.Option.{Option, none, some}
-use Prim.Native.Nat.{ℕ, zero, suc, ◌-◌}
-use native.Mathlib.Omega.{arith}
+use Prim.Native.Nat.{ℕ, ◌-◌}
 use borrow.Author.Tests.{ne_eqb, eqb-true}
 use lib.Dec.{eqb}
 use lib.ListN.{length, get_or, take, drop}
+use Rattle.std.proofs.lemmas.List.{length-take, take_min, nil_from_length}
 use Rattle.tables.specs.Row.{bounds_of, row_of}
 use Rattle.std.specs.declared.ops.Range.{Range}
 use Rattle.records.specs.Monitor.{guest_of}
@@ -41,18 +41,12 @@ module _ (v : ℕ) (r : Monitor) (m : List ℕ) (g : Guest) (e : g ≡ guest_of 
     part_there h b q = rw (q, handed, ne_eqb (length (show_of v r m).part) 0 (rw handed at h))
 
 take_taken : (k : ℕ) (l : List ℕ) → take (length (take k l)) l ≡ take k l
-take_taken zero l = refl
-take_taken (suc k) [] = refl
-take_taken (suc k) (x ∷ l) = ap {B = List ℕ} (λ t. x ∷ t) (take_taken k l)
-
-none_long : (l : List ℕ) → length l ≡ 0 → [] ≡ l
-none_long [] e = refl
-none_long (x ∷ l) e = absurd (omega arith)
+take_taken k l = rw length-take (take_min k l)
 
 -- the words from some word of a table on, named by where they begin and how many they are
 named_part : (a k : ℕ) (m : List ℕ) (b : Bool) → eqb (length (take k (drop a m))) 0 ≡ b
     → take (length (take k (drop a m))) (drop (cond b 0 a) m) ≡ take k (drop a m)
-named_part a k m true e = let none = eqb-true (length (take k (drop a m))) 0 e in rw none (none_long (take k (drop a m)) none)
+named_part a k m true e = let none = eqb-true (length (take k (drop a m))) 0 e in rw none (sym (nil_from_length (take k (drop a m)) none))
 named_part a k m false e = take_taken k (drop a m)
 
 -- the part that the two words name is the one that show hands back

@@ -1,17 +1,18 @@
 -- A record put in changes its own words and no others; one that is there already changes none.
 use mathlib.Core.Path.{◌≡◌, refl, subst, ◌∙◌}
 use mathlib.Core.Bool.{true, false}
-use mathlib.Core.List.{List, [], ◌∷◌, ◌++◌, map, append_assoc}
+use mathlib.Core.List.{List, ◌++◌, map, append_assoc}
 use Prim.Native.Nat.{ℕ, zero, suc, ◌+◌, ◌*◌, ◌≤◌, ◌<◌}
 use native.Mathlib.Nat.{zero-add}
 use native.Mathlib.Omega.{arith}
-use borrow.Author.Tests.{lt-ltb, le-ltb, eq-eqb}
+use borrow.Author.Tests.{lt-ltb, le-ltb}
 use lib.ListN.{get_or, take, drop, set, take-append-drop}
 use lib.Seq.{drop-drop, take-add}
 use borrow.Rule.Slice.PartMut.{put_mid}
 use denote.Param.Members.{Called, Mut}
 use Rattle.std.specs.Array.{IsFromFnResult, IsFromFnResultFrom}
 use Rattle.std.specs.List.{range_with_len}
+use Rattle.std.proofs.lemmas.Cmp.{nat_list_eq_equiv}
 use Rattle.std.proofs.lemmas.List.FromFn.{fill_by_all}
 use Rattle.records.specs.Monitor.{guest_length, words_of, zero_guest, guest_of, with_guest}
 use Rattle.records.specs.Change.{changed, alters, with_change}
@@ -49,16 +50,12 @@ module _ {F X : Type 0} (g : Mut F (ℕ × Unit {0}) X) (f : F) (h : ℕ → X)
     pub filled : (ys : List X) (n : ℕ) → X → IsFromFnResult g f ys n → ys ≡ map h (range_with_len 0 n)
     filled ys n d c = fill_by_all h ys n d c.long (λ k l. let none : 0 + k ≡ k = omega arith in rw none at (filled_at ys 0 n k d c.each l))
 
-same_self : (w : List ℕ) → same_words w w ≡ true
-same_self [] = refl
-same_self (x ∷ w) = rw (eq-eqb x x refl) (same_self w)
-
 -- the words behind a record are those of the next
 next_words : (w : List ℕ) (v : ℕ) → words_from w (suc v) ≡ drop guest_length (words_from w v)
 next_words w v = let e : guest_length * suc v ≡ guest_length * v + guest_length = omega arith in rw (e, drop-drop)
 
 as_found : (w : List ℕ) (v : ℕ) → record_after w v (guest_at w v) ≡ take guest_length (words_from w v)
-as_found w v = rw (same_self (words_of (guest_at w v)))
+as_found w v = rw (nat_list_eq_equiv.refl (words_of (guest_at w v)))
 
 kept_from : (w : List ℕ) (v n : ℕ) → records_after w v (guests_from w v n) ≡ words_from w v
 kept_from w v zero = refl
