@@ -13,19 +13,17 @@ pub(crate) fn share_of_65(rt: &impl Print) -> io::Result<()> {
     let mut map = [0u32; 1024];
     let monitor = guest(&mut frames, &mut map, 65);
     let first = share(monitor, &mut frames, &mut map, 0, 65);
-    let found = first.answer;
     report(
         rt,
         "share 0x0 for 65",
-        Numbers::from(found),
+        Numbers::from(first.answer),
         returned(0, 64, 0, 0),
     )?;
     let second = share(first.monitor, &mut frames, &mut map, 0x40000, 1);
-    let found = second.answer;
     report(
         rt,
         "then share 0x40000 for 1",
-        Numbers::from(found),
+        Numbers::from(second.answer),
         returned(0, 1, 0, 0),
     )
 }
@@ -36,12 +34,11 @@ pub(crate) fn published_uid(rt: &impl Print) -> io::Result<()> {
     let mut map = [0u32; 512];
     let monitor = guest(&mut frames, &mut map, 0);
     let reply = hypercall(monitor, &mut frames, &mut map, 0x8600FF01, 0, 0);
-    let found = reply.answer;
     let w = words(b"28b46fb6-2ec5-11e9-a9ca-4b564d003a74");
     report(
         rt,
         "UID 28b46fb6-2ec5-11e9-a9ca-4b564d003a74",
-        Numbers::from(found),
+        Numbers::from(reply.answer),
         returned(w[0], w[1], w[2], w[3]),
     )
 }
@@ -50,22 +47,16 @@ pub(crate) fn published_uid(rt: &impl Print) -> io::Result<()> {
 fn guest(frames: &mut [u32], map: &mut [u32], granules: u64) -> Monitor {
     let create = Call::Create { legacy: false };
     let created = create.perform(Monitor::fresh(), frames, map);
-    let filled = fill(created.monitor, frames, map, granules);
-    let run = Call::Run { slot: 0 };
-    run.perform(filled, frames, map).monitor
-}
-
-fn fill(monitor: Monitor, frames: &mut [u32], map: &mut [u32], granules: u64) -> Monitor {
-    let mut filled = monitor;
-    for g in 0..granules {
+    let filled = (0..granules).fold(created.monitor, |monitor, g| {
         let donate = Call::Donate {
             slot: 0,
             frame: g,
             granule: g,
         };
-        filled = donate.perform(filled, frames, map).monitor;
-    }
-    filled
+        donate.perform(monitor, frames, map).monitor
+    });
+    let run = Call::Run { slot: 0 };
+    run.perform(filled, frames, map).monitor
 }
 
 fn share(monitor: Monitor, frames: &mut [u32], map: &mut [u32], base: u64, count: u64) -> Reply {

@@ -5,6 +5,7 @@ use lib.Seq.{drop-length}
 use Rattle.trace_records.specs.Record.{Decoded, decode_of}
 use Rattle.trace_records.proofs.DecodeLaws.{unfinished_size}
 use Rattle.trace.specs.Replay.{Replay, ReplayOutcome, unless_stopped, advance_of, outcome, text_before, outcome_of, closing, pieces_text}
+use Rattle.trace.specs.Ensured.{Turns}
 use Rattle.trace.proofs.ReplayLaws.{took, one_record, outcome_advances}
 
 -- some bytes and others behind them: what the first left stands before the others
@@ -70,3 +71,8 @@ rest_within (suc k) r s h =
 
 pub held_at_most : (r : Replay) (s : List ℕ) → length (outcome_of r s).rest < 37
 held_at_most r s = rest_within (length s) r s (omega arith)
+
+-- a turn, where the bytes that were not taken stay at hand
+pub turns : (start left : Replay) (piece text held : List ℕ) (k : ℕ) → outcome_of start piece ≡ outcome text left (drop k piece) → held ≡ drop k piece
+    → Turns start piece left held text
+turns start left piece text held k h e = record { comes_to = rw e h; few = rw e (rw h at (held_at_most start piece)) }

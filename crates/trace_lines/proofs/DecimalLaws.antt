@@ -2,7 +2,7 @@
 -- Of a number of two digits or more, the tenth part has one digit less; a number of one digit is its own last digit.
 use mathlib.Core.Path.{◌≡◌, refl, ap}
 use mathlib.Core.Bool.{Bool, true, false, cond}
-use mathlib.Core.List.{List, [], ◌∷◌, ◌++◌}
+use mathlib.Core.List.{List, [], ◌∷◌, ◌++◌, append_assoc}
 use Prim.Native.Nat.{ℕ, zero, suc, ◌+◌, ◌-◌, ◌/◌, ◌%◌, ◌^◌, ◌≤◌, ◌<◌}
 use native.Mathlib.Nat.{pow-suc, one-le-pow, pow-le-pow_right, mod-eq_of_lt}
 use native.Mathlib.Numerals.{sub-one}
@@ -75,5 +75,9 @@ unfolding decimal
 same_numeral n zero f p = absurd (omega arith)
 same_numeral n (suc j) f p = same_digits j 20 n f.1 (λ h. rw sub-one at (f.2 (omega arith))) p
 
-pub digits_decimal : (n k : ℕ) → Fits w64 n → IsDigitCount 10 1 n k → last_digits 10 k n ≡ decimal n
+digits_decimal : (n k : ℕ) → Fits w64 n → IsDigitCount 10 1 n k → last_digits 10 k n ≡ decimal n
 digits_decimal n k h f = same_numeral n k f (digits_few n k h f)
+
+-- they are put, and a byte behind them
+pub digits_cell : (b l : List ℕ) (n k e : ℕ) → Fits w64 n → IsDigitCount 10 1 n k → l ≡ last_digits 10 k n → (b ++ l) ++ (e ∷ []) ≡ b ++ cell n e
+digits_cell b l n k e h f d = rw (d, digits_decimal n k h f, append_assoc)

@@ -1,4 +1,4 @@
-ghost use Rattle.std.specs.Prelude.{◌≡◌, [], ◌∷◌, ◌++◌, ◌+◌, ◌≤◌, ◌<◌, length, drop};
+ghost use Rattle.std.specs.Prelude.{◌≡◌, [], ◌++◌, ◌+◌, ◌≤◌, length, drop};
 
 use std::marker::Model;
 
@@ -53,15 +53,7 @@ impl<const ROOM: usize> Buffer<ROOM> {
         self.filled = end - start;
     }
 
-    pub(crate) fn put_byte(&mut self, byte: u8)
-        requires { length self.old < ROOM }
-        ensures { self.new ≡ self.old ++ byte ∷ [] }
-    {
-        self.bytes[self.filled] = byte;
-        self.filled += 1;
-    }
-
-    pub(crate) fn put_bytes(&mut self, bytes: &[u8])
+    pub(crate) fn put(&mut self, bytes: &[u8])
         requires { length self.old + length bytes.now ≤ ROOM }
         ensures { self.new ≡ self.old ++ bytes.now }
     {

@@ -36,7 +36,7 @@ impl Line {
             return;
         }
         match self {
-            Line::First => text.put_bytes(b"monitor 1\n"),
+            Line::First => text.put(b"monitor 1\n"),
             Line::Answer(numbers) => {
                 put_cell(text, numbers.verdict, b' ');
                 put_cell(text, numbers.v0, b' ');
@@ -44,36 +44,28 @@ impl Line {
                 put_cell(text, numbers.v2, b' ');
                 put_cell(text, numbers.v3, b'\n');
             }
-            Line::Bad => text.put_bytes(b"bad\n"),
+            Line::Bad => text.put(b"bad\n"),
             Line::Last(answered) => {
-                text.put_bytes(b"end ");
+                text.put(b"end ");
                 put_cell(text, answered, b'\n');
             }
         }
     }
 }
 
-// Puts a number in decimals, and one byte behind it.
-#[tactic(auto, using(crate::proofs::DecimalLaws::after_decimal))]
+// Puts a number in decimals, and one byte behind it. Most numbers of an answer have one digit. `write!` says nothing of when it succeeds, so it
+// can't stand here.
+#[tactic(auto, using(crate::proofs::DecimalLaws::after_decimal, crate::proofs::DecimalLaws::decimal_digit, crate::proofs::DecimalLaws::digits_cell))]
 fn put_cell(text: &mut Text, number: u64, end: u8)
     requires { length text.old + 21 ≤ 131072 }
     ensures { text.new ≡ text.old ++ cell number end }
 {
-    put_decimal(text, number);
-    text.put_byte(end);
-}
-
-// Most numbers of an answer have one digit. `write!` says nothing of when it succeeds, so it can't stand here.
-#[tactic(auto, using(crate::proofs::DecimalLaws::decimal_digit, crate::proofs::DecimalLaws::digits_decimal))]
-fn put_decimal(text: &mut Text, number: u64)
-    requires { length text.old + 20 ≤ 131072 }
-    ensures { text.new ≡ text.old ++ decimal number }
-{
     if number < 10 {
-        text.put_byte(b'0' + number as u8);
+        text.put(&[b'0' + number as u8, end]);
         return;
     }
     let mut digits = [0u8; 20];
     let count = io::decimal(number, &mut digits);
-    text.put_bytes(&digits[..count]);
+    text.put(&digits[..count]);
+    text.put(&[end]);
 }
