@@ -20,9 +20,6 @@ pub record Advances (a : Advance) (left : Replay) (before after : List ℕ) (tak
 abbrev pub Continues : Replay → List ℕ → Replay → ℕ → List ℕ → Type 0
 Continues start bytes left n text = outcome_of start bytes ≡ text_before text (outcome_of left (drop n bytes))
 
-pub continues_start : (r : Replay) (s : List ℕ) → Continues r s r 0 []
-continues_start r s = refl
-
 first_record : (r : Replay) (s : List ℕ) → outcome_of r s ≡ text_before (advance_of r s).text (outcome_of (advance_of r s).left (drop (advance_of r s).taken s))
 first_record r s = rw (append-nil s, append-nil (drop (advance_of r s).taken s)) at (outcome_advances r s [])
 
