@@ -46,11 +46,9 @@ impl Decision {
     pub fn reply(self, monitor: Monitor, slot: u64) -> Reply
         ensures { result ≡ record { monitor = with_change monitor slot self.change; answer = self.answer } }
     {
-        let change = self.change;
-        let answer = self.answer;
         Reply {
-            monitor: monitor.with_change(slot, change),
-            answer,
+            monitor: monitor.with_change(slot, self.change),
+            answer: self.answer,
         }
     }
 }

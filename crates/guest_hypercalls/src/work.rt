@@ -13,6 +13,7 @@ use tables::row_bounds;
 use words::Granule;
 
 // Granules of a slot from the one at this base upward. The slot's row is lent on as a part of the map table that begins in its middle.
+#[tactic(auto, using(tables::proofs::RowLaws::in_order))]
 pub(crate) fn change_row(
     frames: &mut [u32],
     map: &mut [u32],
@@ -25,10 +26,8 @@ pub(crate) fn change_row(
         ≡ ended result.done (place map.new frames.new (granule_of base + result.done)) (stop_by result.outcome) }
 {
     let bounds = row_bounds(map.len(), slot);
-    let start = bounds.start;
-    let end = bounds.end;
     change_range(
-        &mut map[start..end],
+        &mut map[bounds],
         frames,
         slot as usize,
         Granule::holding(base),

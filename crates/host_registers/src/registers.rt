@@ -3,7 +3,7 @@ ghost use Rattle.host_registers.specs.Registers.{register_numbered, is_known, li
 
 use records::FirmwareRegister;
 
-// The register of a number.
+// The register of a number. No From: both types are declared elsewhere.
 #[tactic(auto, unfolding(crate::specs::Registers::register_numbered))]
 pub(crate) fn numbered(number: u64) -> FirmwareRegister
     ensures { result ≡ register_numbered number }

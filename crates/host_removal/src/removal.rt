@@ -58,5 +58,5 @@ fn vacate_slot(frames: &mut [u32], map: &mut [u32], slot: u64) -> u64
         × (result ≡ frames_named (row_of map.old slot)) }
 {
     let bounds = row_bounds(map.len(), slot);
-    vacate(&mut map[bounds.start..bounds.end], frames)
+    vacate(&mut map[bounds], frames)
 }

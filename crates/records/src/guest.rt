@@ -9,7 +9,7 @@ pub const GUEST_WORDS: usize = 7;
 pub struct Guest {
     // A flag beside the other fields: at C the words of a dead slot stand in their places too, as `words_of` says.
     pub live: bool,
-    // It knows no ranges of granules.
+    // It knows no ranges of granules. A flag and no enum of kinds: it is a word at C, and `call_row_of` and `create_of` take it.
     pub legacy: bool,
     pub run: bool,
     pub enrolled: bool,

@@ -32,6 +32,5 @@ pub fn row(map: &[u32], slot: u64) -> &[u32]
     ensures words { result.now ≡ row_of map.now slot }
     ensures place { result.ref_ptr ≡ place_at map.entry.ref_ptr (bounds_of (length map.now) slot).start }
 {
-    let at = row_bounds(map.len(), slot);
-    &map[at.start..at.end]
+    &map[row_bounds(map.len(), slot)]
 }

@@ -39,7 +39,7 @@ pub(crate) const KINDS: [RecordKind; 11] = [
 ];
 
 impl RecordKind {
-    // The kind that a number stands for.
+    // The kind that a number stands for. No TryFrom: an error would tell nothing that None doesn't.
     pub fn of(number: u8) -> Option<RecordKind>
         ensures { result ≡ kind_of number }
     {

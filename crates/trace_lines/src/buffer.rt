@@ -1,4 +1,4 @@
-ghost use Rattle.std.specs.Prelude.{◌≡◌, [], ◌++◌, ◌+◌, ◌≤◌, length, drop};
+ghost use Rattle.std.specs.Prelude.{◌≡◌, [], ◌++◌, ◌+◌, ◌≤◌, length, take, drop};
 
 use std::marker::Model;
 
@@ -20,13 +20,20 @@ impl<const ROOM: usize> Model for Buffer<ROOM> {
 }
 
 impl<const ROOM: usize> Buffer<ROOM> {
+    // The first bytes of an array, so many at the most.
+    pub fn of(bytes: [u8; ROOM], count: usize) -> Self
+        ensures { result ≡ take count bytes.entry }
+    {
+        Buffer {
+            bytes,
+            filled: count.min(ROOM),
+        }
+    }
+
     pub fn new() -> Self
         ensures { result ≡ [] }
     {
-        Buffer {
-            bytes: [0; ROOM],
-            filled: 0,
-        }
+        Buffer::of([0; ROOM], 0)
     }
 
     pub fn as_slice(&self) -> &[u8]

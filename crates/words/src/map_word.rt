@@ -46,7 +46,7 @@ impl MapWord {
     }
 
     // The frame in a word that says one, private or shared as told: what is left when the bits of that kind are taken off. Of any other
-    // word, 65,536 or more is left.
+    // word, 65,536 or more is left: a number and no Option, since the one test below `nameable` rules out both that and a frame beyond the table.
     #[tactic(auto, using(crate::proofs::MapWordLaws::frame_in_lem))]
     pub fn frame_in(word: u32, shared: bool) -> usize
         ensures { (f : ℕ) → f < 2 ^ 16 → eqb result f ≡ names_frame shared f (map_word_of word) }
