@@ -1,8 +1,8 @@
 -- The lowest free slot is 8 exactly if all eight are live, and slot 8 has no row that could be damaged.
-use mathlib.Core.Path.{◌≡◌, refl}
+use mathlib.Core.Path.{◌≡◌, refl, sym, ◌∙◌}
 use mathlib.Core.Bool.{Bool, true, false, cond}
 use mathlib.Core.List.{List, [], ◌∷◌}
-use Prim.Native.Nat.{ℕ, zero, suc, ◌+◌, ◌<◌, ◌≤◌}
+use Prim.Native.Nat.{ℕ, zero, suc, ◌+◌, ◌-◌, ◌<◌, ◌≤◌}
 use native.Mathlib.Decide.{ℕ_discrete}
 use native.Mathlib.Omega.{arith}
 use borrow.Author.Tests.{ltb-false}
@@ -79,3 +79,11 @@ seven_exactly legacy s =
           let eight : free_slot m ≡ 8 = all_taken m 8 0 (λ u k h. live u (omega arith)) in
           rw (l, no_row s.map (free_slot m) eight, eight);
     }
+
+-- where the slots before v are live, and v is above 7
+none_left : (m : Monitor) (v n : ℕ) → n ≡ 0 → free_from m v n ≡ v
+unfolding free_from
+none_left m v n e = rw e
+
+pub all_live_lem : (m : Monitor) (v : ℕ) → free_slot m ≡ free_from m v (8 - v) → 8 ≤ v → v ≡ free_slot m
+all_live_lem m v e h = sym (e ∙ none_left m v (8 - v) (omega arith))

@@ -17,3 +17,4 @@ pub mod CreateLaws
 pub mod ShowLaws
 pub mod RemovalCounts
 pub mod RunLaws
+pub mod DecidingLaws
