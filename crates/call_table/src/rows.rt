@@ -76,7 +76,7 @@ impl Count {
         match self {
             Count::One => 1,
             Count::Asked => r2,
-            Count::AskedOrOne => { if r2 == 0 { 1 } else { r2 } }
+            Count::AskedOrOne => r2.max(1),
         }
     }
 
@@ -143,8 +143,12 @@ impl CallRow {
             Function::Unshare => CallRow::memory(Rule::Zero, UNSHARING, Count::One),
             Function::GuardMap => CallRow::memory(Rule::Zero, GUARDING, Count::One),
             Function::Uid | Function::Relinquish => CallRow::ranged(function),
-            // Calls 5, 6, 8, 10 and 11, and a number of no call.
-            _ => CallRow::ranged(Function::Unknown),
+            Function::GuardInfo
+            | Function::Enroll
+            | Function::GuardUnmap
+            | Function::RangeGuardMap
+            | Function::RangeGuardUnmap
+            | Function::Unknown => CallRow::ranged(Function::Unknown),
         }
     }
 

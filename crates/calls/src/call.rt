@@ -80,7 +80,8 @@ impl Call {
     }
 
     // What the call decides for its slot and the record there, any record where the slot is above 7. The tables it changes.
-    // Two slices, as the C interface lends them. A match and no table of functions, as `command_of`: each call has its own arguments.
+    // Two slices and no struct of both: what a call leaves in such a struct is told by number alone, as `tables.exit.0.now`.
+    // A match and no table of functions, as `command_of`: each call has its own arguments.
     pub fn decide(self, at: u64, guest: Guest, frames: &mut [u32], map: &mut [u32]) -> Decision
         ensures { result_with frames.new map.new result
             ≡ result_of (command_of self) (view frames.old map.old at guest) }

@@ -11,7 +11,7 @@ use host_removal::decide_remove;
 use record_words::{ALL_RECORDS_WORDS, guest_in, monitor_in, put_answer, put_decision};
 use tables::row_bounds;
 
-// A guest with ranges is created in the lowest slot that is not live. Its twin is an export of its own in the C interface; create_kind has both.
+// A guest with ranges is created in the lowest slot that is not live. Two exports, as in the C interface: create_kind is the one body.
 #[unsafe(no_mangle)]
 pub extern "C" fn clundip_create_abi2(
     records: &mut [u64; ALL_RECORDS_WORDS],

@@ -3,7 +3,7 @@ ghost use Rattle.host_registers.specs.Registers.{register_numbered, is_known, li
 
 use records::FirmwareRegister;
 
-// The register of a number. No From: both types are declared elsewhere.
+// The register of a number. No From: it would have to stand in records, and these numbers are those of `register_numbered`, of these calls.
 #[tactic(auto, unfolding(crate::specs::Registers::register_numbered))]
 pub(crate) fn numbered(number: u64) -> FirmwareRegister
     ensures { result ≡ register_numbered number }

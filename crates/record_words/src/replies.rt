@@ -23,7 +23,7 @@ pub fn put_decision(
     put_answer(answer, decision);
 }
 
-// Writes the answer of what a call decided: the verdict and v0 to v3.
+// Writes the answer of what a call decided: the verdict and v0 to v3, in the order of the C interface.
 pub fn put_answer(words: &mut [u64; 5], decision: Decision)
     ensures { words.new ≡ answer_words (numbers_of decision.answer) }
 {
