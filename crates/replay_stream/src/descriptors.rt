@@ -28,8 +28,8 @@ impl Display for Stop {
 
 // Reads behind the bytes at hand, which stay, and answers how many bytes it read. Where there is room, it reads none at the end alone.
 pub(crate) fn read_behind<R: Read>(from: &mut R, input: &mut Input) -> Result<usize, Stop>
-    ensures stay { OnErr result (input.new ≡ input.old) }
-    ensures read { IfOk result (Reads (R.remaining from.old) (R.remaining from.new) input.old input.new) }
+    ensures stay { OnErr result (input.new.text ≡ input.old.text) }
+    ensures read { IfOk result (Reads (R.remaining from.old) (R.remaining from.new) input.old.text input.new.text) }
 {
     let bytes = &mut input.bytes[..];
     match from.read(&mut bytes[input.filled..]) {
@@ -43,7 +43,7 @@ pub(crate) fn read_behind<R: Read>(from: &mut R, input: &mut Input) -> Result<us
 
 // Writes a text out.
 pub(crate) fn write_out<W: Write>(to: &mut W, text: &Text) -> Result<(), Stop>
-    ensures { OnOk result (Appends (W.contents to.old) (W.contents to.new) text.now) }
+    ensures { OnOk result (Appends (W.contents to.old) (W.contents to.new) text.now.text) }
 {
     to.write_all(text.as_slice()).map_err(|_| Stop::Unwritten)
 }

@@ -1,6 +1,7 @@
 ghost use Rattle.std.specs.Prelude.{◌≡◌, ◌≤◌, length};
 ghost use Rattle.commands.specs.Command.{view, result_of};
 ghost use Rattle.calls.specs.Step.{command_of};
+ghost use Rattle.trace_lines.specs.Filled.{cleared, with_put};
 ghost use Rattle.trace.specs.Replay.{fresh_replay, closing};
 ghost use Rattle.trace.specs.Ensured.{kept, Answers, Replays, Turns};
 
@@ -47,8 +48,8 @@ impl Session {
 
     // Answers the records of the bytes at hand; the text is then their lines. The bytes of a record that is not yet finished stay at hand.
     pub fn turn(&mut self, frames: &mut [u32], map: &mut [u32], input: &mut Input, text: &mut Text)
-        ensures { Turns (kept self.old frames.old map.old) input.old
-            (kept self.new frames.new map.new) input.new text.new }
+        ensures { Turns (kept self.old frames.old map.old) input.old.text
+            (kept self.new frames.new map.new) input.new.text text.new.text }
     {
         let taken = self.replay(frames, map, input.as_slice(), text);
         input.consume(taken);
@@ -65,7 +66,7 @@ impl Session {
     ) -> usize
         requires { length bytes.now ≤ 6236 }
         ensures { Replays (kept self.old frames.old map.old) bytes.now
-            (kept self.new frames.new map.new) text.new result }
+            (kept self.new frames.new map.new) text.new.text result }
     {
         text.clear();
         if self.stopped {
@@ -99,7 +100,7 @@ impl Session {
 
     // The text is then the last lines, with so many bytes held.
     pub fn close(self, held: usize, text: &mut Text)
-        ensures { text.new ≡ closing self.answered held }
+        ensures { text.new ≡ with_put (cleared text.old) (closing self.answered held) }
     {
         text.clear();
         if held != 0 {

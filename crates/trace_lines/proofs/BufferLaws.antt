@@ -1,8 +1,9 @@
--- The bytes of a buffer behind the first ones, moved to the front.
-use Rattle.std.proofs.Common.{◌≡◌, ℕ, ◌+◌, ◌-◌, ◌≤◌, min, List, length, take, drop, sym, ap, ◌∙◌, arith, length-drop}
+-- The bytes of a buffer behind the first ones, moved to the front; and bytes put behind bytes put.
+use Rattle.std.proofs.Common.{◌≡◌, ℕ, ◌+◌, ◌-◌, ◌≤◌, min, List, ◌++◌, length, take, drop, sym, ap, ◌∙◌, append_assoc, arith, length-append, length-drop, drop-drop}
 use lib.Seq.{paste, length-take-le}
 use Rattle.std.proofs.lemmas.List.{drop-take, drop_min}
 use Rattle.std.proofs.lemmas.List.Edits.{take-paste}
+use Rattle.trace_lines.specs.Filled.{Filled, with_put}
 
 pub moved : (b : List ℕ) (f n t : ℕ) → f ≤ length b → t ≡ min n f → take (f - t) (paste b 0 (drop t b) (f - t)) ≡ drop n (take f b)
 moved b f n t h e =
@@ -13,3 +14,6 @@ moved b f n t h e =
     ∙ take-paste b 0 (drop t b) k (omega arith) (omega (arith, length-drop t b))
     ∙ sym (drop-take t k b)
     ∙ rw (whole, e) (rw (length-take-le f b h) at (drop_min n (take f b)))
+
+pub put_put : (b : Filled) (s t : List ℕ) → with_put (with_put b s) t ≡ with_put b (s ++ t)
+put_put b s t = rw (append_assoc b.text s t, drop-drop (length t) (length s) b.behind, length-append s t)

@@ -2,7 +2,7 @@
 -- Of a number of two digits or more, the tenth part has one digit less; a number of one digit is its own last digit.
 use mathlib.Core.Path.{◌≡◌, refl, ap}
 use mathlib.Core.Bool.{Bool, true, false, cond}
-use mathlib.Core.List.{List, [], ◌∷◌, ◌++◌, append_assoc}
+use mathlib.Core.List.{List, [], ◌∷◌, ◌++◌}
 use Prim.Native.Nat.{ℕ, zero, suc, ◌+◌, ◌-◌, ◌/◌, ◌%◌, ◌^◌, ◌≤◌, ◌<◌}
 use native.Mathlib.Nat.{pow-suc, one-le-pow, pow-le-pow_right, mod-eq_of_lt}
 use native.Mathlib.Numerals.{sub-one}
@@ -14,6 +14,8 @@ use mir.Syntax.{w64}
 use mir.Val.{Fits}
 use Rattle.io.specs.Digits.{last_digits, IsDigitCount}
 use Rattle.trace_lines.specs.Line.{digit, numeral, decimal, cell}
+use Rattle.trace_lines.specs.Filled.{Filled, with_put}
+use Rattle.trace_lines.proofs.BufferLaws.{put_put}
 
 -- a numeral is no longer than its fuel
 numeral_short_by : (t : Bool) (k d e : ℕ) (l : List ℕ) → length l ≤ k → length (cond t (d ∷ []) (l ++ (e ∷ []))) ≤ suc k
@@ -79,5 +81,6 @@ digits_decimal : (n k : ℕ) → Fits w64 n → IsDigitCount 10 1 n k → last_d
 digits_decimal n k h f = same_numeral n k f (digits_few n k h f)
 
 -- they are put, and a byte behind them
-pub digits_cell : (b l : List ℕ) (n k e : ℕ) → Fits w64 n → IsDigitCount 10 1 n k → l ≡ last_digits 10 k n → (b ++ l) ++ (e ∷ []) ≡ b ++ cell n e
-digits_cell b l n k e h f d = rw (d, digits_decimal n k h f, append_assoc)
+pub digits_cell : (b : Filled) (l : List ℕ) (n k e : ℕ) → Fits w64 n → IsDigitCount 10 1 n k → l ≡ last_digits 10 k n
+    → with_put (with_put b l) (e ∷ []) ≡ with_put b (cell n e)
+digits_cell b l n k e h f d = rw (d, digits_decimal n k h f) (put_put b (decimal n) (e ∷ []))

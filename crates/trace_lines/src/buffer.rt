@@ -1,4 +1,5 @@
-ghost use Rattle.std.specs.Prelude.{◌≡◌, [], ◌++◌, ◌+◌, ◌≤◌, length, take, drop};
+ghost use Rattle.std.specs.Prelude.{◌≡◌, [], ◌+◌, ◌≤◌, length, drop};
+ghost use Rattle.trace_lines.specs.Filled.{filled_to, cleared, with_put};
 
 use std::marker::Model;
 
@@ -10,11 +11,12 @@ pub struct Buffer<const ROOM: usize> {
 }
 
 impl<const ROOM: usize> Model for Buffer<ROOM> {
-    ghost use Rattle.std.specs.Prelude.{◌≡◌, ◌≤◌, ℕ, List, length, take};
+    ghost use Rattle.std.specs.Prelude.{◌≡◌, ◌≤◌, length};
+    ghost use Rattle.trace_lines.specs.Filled.{Filled, filled_to};
 
-    ghost Value = { List ℕ };
+    ghost Value = { Filled };
 
-    ghost view = { λ b. take b.filled b.bytes };
+    ghost view = { λ b. filled_to b.filled b.bytes };
 
     ghost invariant = { λ b. (b.filled ≤ ROOM) × (length b.bytes ≡ ROOM) };
 }
@@ -22,7 +24,7 @@ impl<const ROOM: usize> Model for Buffer<ROOM> {
 impl<const ROOM: usize> Buffer<ROOM> {
     // The first bytes of an array, so many at the most.
     pub fn of(bytes: [u8; ROOM], count: usize) -> Self
-        ensures { result ≡ take count bytes.entry }
+        ensures { result ≡ filled_to count bytes.entry }
     {
         Buffer {
             bytes,
@@ -31,20 +33,20 @@ impl<const ROOM: usize> Buffer<ROOM> {
     }
 
     pub fn new() -> Self
-        ensures { result ≡ [] }
+        ensures { result.text ≡ [] }
     {
         Buffer::of([0; ROOM], 0)
     }
 
     pub fn as_slice(&self) -> &[u8]
-        ensures bytes { result.now ≡ self.now }
-        ensures fits { length self.now ≤ ROOM }
+        ensures bytes { result.now ≡ self.now.text }
+        ensures fits { length self.now.text ≤ ROOM }
     {
         &self.bytes[..self.filled]
     }
 
     pub fn clear(&mut self)
-        ensures { self.new ≡ [] }
+        ensures { self.new ≡ cleared self.old }
     {
         self.filled = 0;
     }
@@ -52,7 +54,7 @@ impl<const ROOM: usize> Buffer<ROOM> {
     // Takes away the first bytes, so many at the most, and moves the others to the front.
     #[tactic(auto, using(crate::proofs::BufferLaws::moved))]
     pub fn consume(&mut self, count: usize)
-        ensures { self.new ≡ drop count self.old }
+        ensures { self.new.text ≡ drop count self.old.text }
     {
         let end = self.filled;
         let start = count.min(end);
@@ -61,8 +63,8 @@ impl<const ROOM: usize> Buffer<ROOM> {
     }
 
     pub(crate) fn put(&mut self, bytes: &[u8])
-        requires { length self.old + length bytes.now ≤ ROOM }
-        ensures { self.new ≡ self.old ++ bytes.now }
+        requires { length self.old.text + length bytes.now ≤ ROOM }
+        ensures { self.new ≡ with_put self.old bytes.now }
     {
         let start = self.filled;
         let end = start + bytes.len();

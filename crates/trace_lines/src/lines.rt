@@ -1,4 +1,5 @@
-ghost use Rattle.std.specs.Prelude.{◌≡◌, ◌++◌, ◌+◌, ◌≤◌, length};
+ghost use Rattle.std.specs.Prelude.{◌≡◌, ◌+◌, ◌≤◌, length};
+ghost use Rattle.trace_lines.specs.Filled.{with_put};
 ghost use Rattle.trace_lines.specs.Line.{cell, decimal, text_put};
 
 use crate::buffer::Buffer;
@@ -30,7 +31,7 @@ impl Line {
     // Puts the line behind what is there. Where there is no room for the longest line it puts nothing.
     #[tactic(auto, using(crate::proofs::DecimalLaws::after_cell))]
     pub fn put(self, text: &mut Text)
-        ensures { text.new ≡ text.old ++ text_put (length text.old) self }
+        ensures { text.new ≡ with_put text.old (text_put (length text.old.text) self) }
     {
         if ROOM - LONGEST < text.as_slice().len() {
             return;
@@ -57,8 +58,8 @@ impl Line {
 // can't stand here.
 #[tactic(auto, using(crate::proofs::DecimalLaws::after_decimal, crate::proofs::DecimalLaws::decimal_digit, crate::proofs::DecimalLaws::digits_cell))]
 fn put_cell(text: &mut Text, number: u64, end: u8)
-    requires { length text.old + 21 ≤ 131072 }
-    ensures { text.new ≡ text.old ++ cell number end }
+    requires { length text.old.text + 21 ≤ 131072 }
+    ensures { text.new ≡ with_put text.old (cell number end) }
 {
     if number < 10 {
         text.put(&[b'0' + number as u8, end]);

@@ -6,7 +6,7 @@ use Rattle.replay_stream.proofs.read_on.Given as goal
 
 abbrev pub invariant-loop : goal.invariant-loop
 invariant-loop g l =
-    (length l.input < 37)
+    (length l.input.text < 37)
     × OnTheWay
     (kept l.initial.session l.initial.frames l.initial.map)
     (g.R.Read.remaining l.initial.from)
@@ -14,4 +14,4 @@ invariant-loop g l =
     (g.W.Write.contents l.initial.to)
     (g.W.Write.contents l.to)
     (kept l.session l.frames l.map)
-    l.input
+    l.input.text

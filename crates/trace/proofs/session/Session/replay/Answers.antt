@@ -62,7 +62,7 @@ changed_to c =
 
 turn : (c : Joined-slot-lt8)
     → let last = c.answer-change.new in
-    Advances (advance_of (here c) (ahead c)) (kept (there c) last.frames last.map) c.loop-taken.text last.text c.in-Ok-Some.field-0-0.size
+    Advances (advance_of (here c) (ahead c)) (kept (there c) last.frames last.map) c.loop-taken.text.text last.text.text c.in-Ok-Some.field-0-0.size
 turn c =
     let l = c.loop-taken in
     let (stored, same, going) = changed_to c in
@@ -72,10 +72,10 @@ turn c =
 -- how far it got
 got : (c : Joined-slot-lt8)
     → let n = c.loop-taken.taken + c.in-Ok-Some.field-0-0.size in
-    (n ≤ length c.args.bytes.now) × (length c.answer-change.new.text ≤ 21 * n) × (c.loop-taken.taken < n)
+    (n ≤ length c.args.bytes.now) × (length c.answer-change.new.text.text ≤ 21 * n) × (c.loop-taken.taken < n)
 got c =
     let l = c.loop-taken in
-    let far = advance_within (here c) _ c.args.bytes.now l.text _ l.taken _ l.invariant.1 l.invariant.2 (turn c) in
+    let far = advance_within (here c) _ c.args.bytes.now l.text.text _ l.taken _ l.invariant.1 l.invariant.2 (turn c) in
     (far.0, far.1, omega (arith, (record_size _ _ _ (good c)).0))
 
 pub returns-then-self : goal.returns-then-self
@@ -96,12 +96,12 @@ pub returns-in-Err : goal.returns-in-Err
 returns-in-Err c =
     let l = c.loop-taken in
     let bytes = c.args.bytes.now in
-    let room : length l.text + 105 ≤ 131072 = omega (arith, l.invariant.2, c.loop-taken-test.true, c.requires) in
+    let room : length l.text.text + 105 ≤ 131072 = omega (arith, l.invariant.2, c.loop-taken-test.true, c.requires) in
     let is = sym (decoded bytes l.taken _ c.decode.ensures) ∙ c.in-Err.is in
     let turned = turn_bad l.self l.frames l.map l.invariant.3 (drop l.taken bytes) is l.text _ room c.put.ensures in
     let all : l.taken + length (drop l.taken bytes) ≡ length bytes = simp length-drop (omega (arith, l.invariant.1)) in
     let end = replay (state l.frames l.map l.self.monitor) l.self.answered true in
-    let on = advance_continues _ _ end bytes l.text _ l.taken _ l.invariant.0 turned in
+    let on = advance_continues _ _ end bytes l.text.text _ l.taken _ l.invariant.0 turned in
     record { comes_to = continues_all _ end bytes _ (rw all at on); within = omega arith }
 
 pub overflow_add-taken : goal.overflow_add-taken
@@ -118,7 +118,7 @@ pub loop-taken-preserved : goal.loop-taken-preserved
 loop-taken-preserved c =
     let at = (goal.at.loop-taken-preserved c).Joined-slot-lt8 in
     let l = c.loop-taken in
-    let on = advance_continues _ (here at) _ c.args.bytes.now l.text _ l.taken _ l.invariant.0 (turn at) in
+    let on = advance_continues _ (here at) _ c.args.bytes.now l.text.text _ l.taken _ l.invariant.0 (turn at) in
     let far = got at in
     (on, far.0, far.1, (changed_to at).2)
 

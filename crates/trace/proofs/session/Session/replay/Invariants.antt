@@ -7,9 +7,9 @@ use Rattle.trace.proofs.session.Session.replay.Given as goal
 
 abbrev pub invariant-loop-taken : goal.invariant-loop-taken
 invariant-loop-taken l =
-    Continues (kept l.initial.self l.initial.frames l.initial.map) l.bytes (kept l.self l.frames l.map) l.taken l.text
+    Continues (kept l.initial.self l.initial.frames l.initial.map) l.bytes (kept l.self l.frames l.map) l.taken l.text.text
     × (l.taken ≤ length l.bytes)
-    × (length l.text ≤ 21 * l.taken)
+    × (length l.text.text ≤ 21 * l.taken)
     × (l.self.stopped ≡ false)
 
 abbrev pub decreases-loop-taken : goal.decreases-loop-taken
