@@ -26,7 +26,8 @@ impl Display for Stop {
     }
 }
 
-// Reads behind the bytes at hand, which stay, and answers how many bytes it read. Where there is room, it reads none at the end alone.
+// Reads behind the bytes at hand, which stay, and answers how many bytes it read. Where there is room for a byte, it reads none at the end
+// alone. It sets the input's length itself: a method that lends the free bytes would return a `&mut`, of which the check proves too little.
 pub(crate) fn read_behind<R: Read>(from: &mut R, input: &mut Input) -> Result<usize, Stop>
     ensures stay { OnErr result (input.new.text ≡ input.old.text) }
     ensures read { IfOk result (Reads (R.remaining from.old) (R.remaining from.new) input.old.text input.new.text) }
