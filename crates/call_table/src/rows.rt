@@ -90,14 +90,14 @@ impl Count {
 
 impl CallRow {
     // The row of the call that R0 asks for, in the table of the caller's kind.
-    // Found behind the test of the kind, each table is one jump; found before it, a share of 64 granules misses its bar of speed.
     pub fn of(legacy: bool, r0: u64) -> CallRow
         ensures { result ≡ call_row_of legacy (asked_by r0) }
     {
+        let function = Function::asked(r0);
         if legacy {
-            CallRow::legacy(Function::asked(r0))
+            CallRow::legacy(function)
         } else {
-            CallRow::ranged(Function::asked(r0))
+            CallRow::ranged(function)
         }
     }
 
@@ -210,8 +210,7 @@ impl CallRow {
     pub fn registers_hold(self, registers: Registers) -> bool
         ensures { result ≡ registers_hold self registers }
     {
-        // Joined by `&`, with no branch for each: by `&&` a share of 64 granules misses its bar of speed.
-        self.r1.meets(registers.r1) & (self.r2.meets(registers.r2) & self.r3.meets(registers.r3))
+        self.r1.meets(registers.r1) && self.r2.meets(registers.r2) && self.r3.meets(registers.r3)
     }
 }
 
