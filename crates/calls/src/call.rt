@@ -110,6 +110,7 @@ impl Call {
     }
 
     // The call made on these records and tables. It answers for any call, records and tables. Of show it is the verdict.
+    // `donate`, `remove` and the others have this body too: README.md names them, and some take fewer tables than this.
     #[tactic(auto, using(commands::proofs::CommandLaws::applying), unfolding(crate::specs::Step::step))]
     pub fn perform(self, monitor: Monitor, frames: &mut [u32], map: &mut [u32]) -> Reply
         ensures { answered (state frames.new map.new result.monitor) result.answer

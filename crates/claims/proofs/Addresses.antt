@@ -14,7 +14,7 @@ use Rattle.runs.proofs.Kept.{Holds, kept}
 use Rattle.runs.proofs.MadeLaws.{every_first, made_every, made_rising}
 use Rattle.runs.proofs.Pieces.{told}
 use Rattle.words.specs.Granule.{granule_size}
-use Rattle.words.proofs.Booleans.{both_true}
+use Rattle.words.proofs.Booleans.{never, both_true}
 use Rattle.tables.specs.Length.{frames_hold, width_of, map_holds, lengths_hold}
 use Rattle.answers.specs.Answer.{numbers_of}
 use Rattle.commands.specs.State.{State}
@@ -73,7 +73,7 @@ module _ (c : RangeCall) (v r3 : ℕ) where
       where
         on : (u : State) (a : Numbers) (x : Bool) → (x ≡ false → 1 ≤ a.v1)
             → cond x (ended 0 (at b u) (refused a)) (ended a.v1 (at (b + granule_size * a.v1) u) complete) ≡ ended k (at b' t) complete → b < b'
-        on u a true some e = let z : ◌≡◌ {A = ℕ} 0 1 = cc in absurd (omega arith)
+        on u a true some e = never cc
         on u a false some e = let there : b + granule_size * a.v1 ≡ b' = cc in omega (arith, some refl)
 
     -- no two calls that carrying on makes are made at one address

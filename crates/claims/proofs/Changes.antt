@@ -10,6 +10,7 @@ use borrow.Author.Tests.{ltb-true}
 use lib.Dec.{ltb}
 use lib.ListN.{length, get_or, length-set}
 use lib.Seq.{get_or-set_other}
+use Rattle.words.proofs.Booleans.{never}
 use Rattle.runs.specs.Run.{took, End, ended, run}
 use Rattle.runs.proofs.Kept.{Holds, kept}
 use Rattle.words.specs.Granule.{granule_size, granule_of}
@@ -35,25 +36,25 @@ use Rattle.claims.proofs.BeforeGranules.{call_refusal, step_gated, Passed, call_
 -- the word made differs from the word of the kind that the call needs
 other_word : (c : RangeCall) (k : GranuleState) → kind_right c k ≡ true → (w : ℕ) → map_bits (map_word_by k) ≡ w → w ≢ word_made c (frame_in k)
 unfolding map_bits
-other_word c granule-state.Damaged h w e = let z : ◌≡◌ {A = ℕ} 0 1 = cc in absurd (omega arith)
-other_word share granule-state.Vacant h w e = let z : ◌≡◌ {A = ℕ} 0 1 = cc in absurd (omega arith)
-other_word share (granule-state.Frame true f) h w e = let z : ◌≡◌ {A = ℕ} 0 1 = cc in absurd (omega arith)
+other_word c granule-state.Damaged h w e = never cc
+other_word share granule-state.Vacant h w e = never cc
+other_word share (granule-state.Frame true f) h w e = never cc
 other_word share (granule-state.Frame false f) h w e = omega arith
-other_word share granule-state.Guarded h w e = let z : ◌≡◌ {A = ℕ} 0 1 = cc in absurd (omega arith)
-other_word unshare granule-state.Vacant h w e = let z : ◌≡◌ {A = ℕ} 0 1 = cc in absurd (omega arith)
+other_word share granule-state.Guarded h w e = never cc
+other_word unshare granule-state.Vacant h w e = never cc
 other_word unshare (granule-state.Frame true f) h w e = omega arith
-other_word unshare (granule-state.Frame false f) h w e = let z : ◌≡◌ {A = ℕ} 0 1 = cc in absurd (omega arith)
-other_word unshare granule-state.Guarded h w e = let z : ◌≡◌ {A = ℕ} 0 1 = cc in absurd (omega arith)
+other_word unshare (granule-state.Frame false f) h w e = never cc
+other_word unshare granule-state.Guarded h w e = never cc
 other_word range_guard_map granule-state.Vacant h w e = omega arith
-other_word range_guard_map (granule-state.Frame s f) h w e = let z : ◌≡◌ {A = ℕ} 0 1 = cc in absurd (omega arith)
-other_word range_guard_map granule-state.Guarded h w e = let z : ◌≡◌ {A = ℕ} 0 1 = cc in absurd (omega arith)
-other_word range_guard_unmap granule-state.Vacant h w e = let z : ◌≡◌ {A = ℕ} 0 1 = cc in absurd (omega arith)
-other_word range_guard_unmap (granule-state.Frame s f) h w e = let z : ◌≡◌ {A = ℕ} 0 1 = cc in absurd (omega arith)
+other_word range_guard_map (granule-state.Frame s f) h w e = never cc
+other_word range_guard_map granule-state.Guarded h w e = never cc
+other_word range_guard_unmap granule-state.Vacant h w e = never cc
+other_word range_guard_unmap (granule-state.Frame s f) h w e = never cc
 other_word range_guard_unmap granule-state.Guarded h w e = omega arith
 
 -- a kind that is right is not damaged, and then the word is that of the state
 undamaged_kind : (c : RangeCall) (k : GranuleState) → kind_right c k ≡ true → k ≢ granule-state.Damaged
-undamaged_kind c k h e = let f : kind_right c k ≡ false = rw e in let z : ◌≡◌ {A = ℕ} 0 1 = cc in omega arith
+undamaged_kind c k h e = let f : kind_right c k ≡ false = rw e in never cc
 
 damaged_word : (k : GranuleState) → map_word_by k ≡ map-word.Damaged → k ≡ granule-state.Damaged
 damaged_word granule-state.Vacant e = cc

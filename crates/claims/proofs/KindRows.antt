@@ -4,10 +4,9 @@ use mathlib.Core.Bool.{Bool, true, false, ◌&&◌}
 use mathlib.Core.List.{[], ◌∷◌, ◌++◌}
 use mathlib.Core.Option.{Option, none, some}
 use Prim.Native.Nat.{ℕ}
-use native.Mathlib.Omega.{arith}
 use lib.Dec.{ltb}
 use lib.ListN.{length}
-use Rattle.words.proofs.Booleans.{and_false, and_true}
+use Rattle.words.proofs.Booleans.{never, and_false, and_true}
 use Rattle.tables.specs.Length.{lengths_hold}
 use Rattle.records.specs.Monitor.{guest_of, live_in}
 use Rattle.answers.specs.Answer.{verdict_with}
@@ -48,7 +47,7 @@ module _ (v : ℕ) (r : Registers) (s : State) where
           ≡ effected v s (unless_refused (first_refusal ((a, BadLength) ∷ (b, NoGuest) ∷ (c, NeverRun) ∷ us)) f)
       on false b c ts us d f h = refl
       on true false c ts us d f h = refl
-      on true true c ts us d f h = let z : ◌≡◌ {A = ℕ} 0 1 = cc in absurd (omega arith)
+      on true true c ts us d f h = never cc
 
   pub ranged_row : live_legacy v s ≡ false → hypercall_of v r s ≡ by_row v r (ranged_row_of (asked_by r.r0)) s
   ranged_row h = on (guest_of s.monitor v).legacy refl

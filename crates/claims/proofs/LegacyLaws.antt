@@ -73,7 +73,7 @@ row_is legacy_guard_map = refl
 
 -- a refusal has the numbers of one of the tests
 refusal_is : (P : Numbers → Type 0) (ts : Tests Numbers) → Every (λ t. P t.1) ts → (n : Numbers) → first_refusal ts ≡ some n → P n
-refusal_is P [] h n e = let z : ◌≡◌ {A = ℕ} 0 1 = cc in absurd (omega arith)
+refusal_is P [] h n e = never cc
 refusal_is P (t ∷ ts) h n e = on t.0 (λ q. refusal_is P ts h.1 n q) e
   where
     on : (b : Bool) → (first_refusal ts ≡ some n → P n) → cond b (first_refusal ts) (some t.1) ≡ some n → P n
@@ -173,7 +173,7 @@ module _ (c : LegacyCall) (r0 : ℕ) (number : r0 % 2 ^ 32 ≡ legacy_number c) 
   -- by the answer: where the call was done, and where it was refused, with numbers of one of its tests
   done_one : (x : Bool) (a : Numbers) (t : State) → x ≡ false → cond x (refuses a) (took (at (b + granule_size) t)) ≡ gated (first_refusal tests) granule
       → differing s.map t.map ≡ 1
-  done_one true a t h e = let z : ◌≡◌ {A = ℕ} 0 1 = cc in absurd (omega arith)
+  done_one true a t h e = never cc
   done_one false a t h e =
       let u = gated_passed (first_refusal tests) granule (at (b + granule_size) t) (sym e) in
       let p = all_pass tests u.0 in
@@ -186,8 +186,8 @@ module _ (c : LegacyCall) (r0 : ℕ) (number : r0 % 2 ^ 32 ≡ legacy_number c) 
     where
       on : (x : Bool) (q : Option Numbers) → first_refusal (legacy_tests c v r2 r3 b s) ≡ q → x ≡ true
           → cond x (refuses a) (took (at (b + granule_size) t)) ≡ gated q (took (at (b + granule_size) (changed_at (same_change c) v b s))) → P a
-      on false q i h e = let z : ◌≡◌ {A = ℕ} 0 1 = cc in absurd (omega arith)
-      on true none i h e = let z : ◌≡◌ {A = ℕ} 0 1 = cc in absurd (omega arith)
+      on false q i h e = never cc
+      on true none i h e = never cc
       on true (some n) i h e =
           let same : n ≡ a = cc in
           rw same at (refusal_is P (legacy_tests c v r2 r3 b s) (p₁, (p₂, (p₃, (p, (p, (p₆, (p, tt))))))) n i)

@@ -9,7 +9,7 @@ use Rattle.runs.proofs.Runs.{count_of, run_at_most}
 use Rattle.runs.proofs.Pieces.{told}
 use lib.ListN.{length}
 use Rattle.words.specs.Granule.{granule_size, is_base}
-use Rattle.words.proofs.Booleans.{and_false}
+use Rattle.words.proofs.Booleans.{never, and_false}
 use Rattle.tables.specs.Length.{lengths_hold}
 use Rattle.answers.specs.Answer.{numbers_of}
 use Rattle.commands.specs.State.{State, Answered, answered}
@@ -65,7 +65,7 @@ read_told s t b a e (some k b' t' r) few counts false h =
     let same : t ≡ t' = cc in
     (λ z. (omega arith, omega arith, told-count ∙ counts ∙ rw same), λ z. let y : ◌≡◌ {A = ℕ} 0 1 = cc in absurd (omega arith))
 read_told s t b a e (some k b' t' r) few counts true h = let z : ◌≡◌ {A = ℕ} 0 (suc k) = cc in absurd (omega arith)
-read_told s t b a e (first r) few counts false h = let z : ◌≡◌ {A = ℕ} 0 1 = cc in absurd (omega arith)
+read_told s t b a e (first r) few counts false h = never cc
 read_told s t b a e (first r) few counts true h = (λ z. let y : ◌≡◌ {A = ℕ} 0 1 = cc in absurd (omega arith), λ z. cc)
 
 module _ (c : RangeCall) (r0 : ℕ) (number : r0 % 2 ^ 32 ≡ number_of c) (v b r3 : ℕ) (s : State) (ranged : live_legacy v s ≡ false) where
@@ -92,7 +92,7 @@ module _ (c : RangeCall) (r0 : ℕ) (number : r0 % 2 ^ 32 ≡ number_of c) (v b 
   zero_is_one f o e same any = rw (ranged_row v (registers r0 b 0 r3) s ranged, ranged_row v (registers r0 b 1 r3) s ranged, e, same, any)
 
   refused_tells : (a : Answer) → is_range_refusal (numbers_of a) ≡ true → TellsChanges s (answered s a)
-  refused_tells a h = record { done = λ e. let z : ◌≡◌ {A = ℕ} 0 1 = cc in absurd (omega arith); none = λ e. refl }
+  refused_tells a h = record { done = λ e. never cc; none = λ e. refl }
 
   -- "a range guard call with count 0 answers NS"
   registers_wrong : (x₁ x₂ x₃ x₄ x₅ : Bool) (done : Effect) → x₄ ≡ false

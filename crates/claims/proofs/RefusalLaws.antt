@@ -2,7 +2,7 @@
 use mathlib.Core.Path.{◌≡◌, refl}
 use mathlib.Core.Bool.{true}
 use Prim.Native.Nat.{ℕ}
-use native.Mathlib.Omega.{arith}
+use Rattle.words.proofs.Booleans.{never}
 use Rattle.answers.specs.Answer.{numbers_of}
 use Rattle.commands.specs.State.{State, Answered, answered}
 use Rattle.commands.specs.Command.{Success, host_success, guest_success, success_answer}
@@ -24,8 +24,8 @@ same_kept s a h = refl
 -- a call that has done something is no refusal
 success_kept : (s t : State) (y : Success) → KeptRefused s (answered t (success_answer y))
 unfolding KeptRefused numbers_of
-success_kept s t (host_success n) h = let z : ◌≡◌ {A = ℕ} 0 1 = cc in absurd (omega arith)
-success_kept s t (guest_success n) h = let z : ◌≡◌ {A = ℕ} 0 1 = cc in absurd (omega arith)
+success_kept s t (host_success n) h = never cc
+success_kept s t (guest_success n) h = never cc
 
 pub step_kept : (c : Call) (s : State) → KeptRefused s (step c s)
 unfolding step

@@ -16,7 +16,7 @@ use Rattle.words.specs.FrameWord.{frame_bits, frame_word_of, names_granule}
 use Rattle.words.specs.declared.map_word.MapWord.{MapWord}
 use Rattle.words.specs.declared.map_word.MapWord.TheVariants as map-word
 use Rattle.words.specs.declared.frame_word.FrameWord.TheVariants as frame-word
-use Rattle.words.proofs.Booleans.{both_true}
+use Rattle.words.proofs.Booleans.{never, both_true}
 use Rattle.words.proofs.FrameWordLaws.{named_granule, frame_decode_encode}
 use Rattle.tables.specs.Length.{lengths_hold}
 use Rattle.tables.specs.Row.{row_of}
@@ -51,8 +51,7 @@ named_owned frames v g s f h =
 owned_changes : (w v g : ℕ) (s : Bool) → frame_word_of w ≡ frame-word.Owned v s g → w ≢ frame_bits frame-word.Waiting
 owned_changes w v g s o e =
     let waits : frame_word_of w ≡ frame-word.Waiting = rw e (frame_decode_encode frame-word.Waiting tt) in
-    let z : ◌≡◌ {A = ℕ} 0 1 = cc in
-    omega arith
+    never cc
 
 -- a frame word names one granule
 one_granule : (w v g h : ℕ) (s t : Bool) → frame_word_of w ≡ frame-word.Owned v s g → frame_word_of w ≡ frame-word.Owned v t h → g ≡ h

@@ -8,6 +8,7 @@ use native.Mathlib.Omega.{arith}
 use borrow.Author.Tests.{lt-ltb}
 use lib.Dec.{ltb}
 use lib.ListN.{length, get_or, set}
+use Rattle.words.proofs.Booleans.{never}
 use Rattle.runs.specs.Run.{Step, took, refuses, gated, run}
 use Rattle.runs.proofs.Alike.{map_step, map_end, alike}
 use Rattle.words.specs.Granule.{granule_size, granule_of, address_of}
@@ -51,7 +52,7 @@ granule_step n c v (at b s) = gated (granule_refusal n c v (at b s)) (took (at (
 rebuilt : (v g w : ℕ) (s t : Bool) → frame_word_of w ≡ frame-word.Owned v s g → with_shared_byte (sharing_byte t) w ≡ frame_bits (frame-word.Owned v t g)
 unfolding frame_bits
 rebuilt v g w s t e =
-    let back : frame_bits (frame_word_of w) ≡ w = frame_encode_decode w (λ d. let z : ◌≡◌ {A = ℕ} 0 1 = cc in omega arith) in
+    let back : frame_bits (frame_word_of w) ≡ w = frame_encode_decode w (λ d. never cc) in
     let word : (v + 1) * 2 ^ 24 + (sharing_byte s * 2 ^ 16 + g) ≡ w = rw e at back in
     let fits = rw e at (frame_fits w) in
     let room : g < 2 ^ 16 = fits.1 in
@@ -105,7 +106,7 @@ pair_inside frames map v g hv h = rw (lt-ltb v 8 hv, h)
 -- a frame that a granule was found with names it back
 owner : (frames : List ℕ) (v g w : ℕ) (s : Bool) (f : ℕ) → granule_state frames v g (map_word_of w) ≡ granule-state.Frame s f → frame_word_of (get_or frames f 0) ≡ frame-word.Owned v s g
 owner frames v g w s f e =
-    let says : map_word_of w ≡ map-word.Frame s f = granule_says frames v g (map_word_of w) (granule-state.Frame s f) (sym e) (λ q. let z : ◌≡◌ {A = ℕ} 0 1 = cc in omega arith) in
+    let says : map_word_of w ≡ map-word.Frame s f = granule_says frames v g (map_word_of w) (granule-state.Frame s f) (sym e) (λ q. never cc) in
     (granule_names frames v g s f (sym e ∙ ap (granule_state frames v g) says)).1
 
 module _ (n : Numbers) (c : RangeCall) (v : ℕ) (hv : v < 8) (m : Monitor) where

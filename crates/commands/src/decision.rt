@@ -22,7 +22,8 @@ pub struct Reply {
 }
 
 impl Decision {
-    // An answer that leaves the record as it is.
+    // An answer that leaves the record as it is. A call that writes tables hands back so by hand what a test refused: it answers a Decision, and
+    // `?` would answer the refusal alone.
     pub fn keep(answer: Answer) -> Decision
         ensures { result ≡ decision Kept answer }
     {

@@ -3,8 +3,8 @@ use mathlib.Core.Path.{◌≡◌, sym, ◌∙◌}
 use mathlib.Core.Bool.{Bool, true, false, cond}
 use mathlib.Core.List.{List}
 use Prim.Native.Nat.{ℕ, ◌<◌}
-use native.Mathlib.Omega.{arith}
 use lib.ListN.{length, get_or}
+use Rattle.words.proofs.Booleans.{never}
 use Rattle.words.specs.MapWord.{map_word_of}
 use Rattle.words.specs.FrameWord.{frame_word_of}
 use Rattle.words.specs.declared.map_word.MapWord.TheVariants as map-word
@@ -19,14 +19,14 @@ use Rattle.granules.specs.declared.kinds.Kind.TheVariants.{Vacant, Private, Shar
 use Rattle.granules.specs.declared.kinds.Operation.{Operation}
 
 no_frame : (m : Kind) (f : ℕ) → write_framed f ≡ bare m → ⊥
-no_frame Vacant f e = let z : ◌≡◌ {A = ℕ} 0 1 = cc in omega arith
-no_frame Private f e = let z : ◌≡◌ {A = ℕ} 0 1 = cc in omega arith
-no_frame Shared f e = let z : ◌≡◌ {A = ℕ} 0 1 = cc in omega arith
-no_frame Guarded f e = let z : ◌≡◌ {A = ℕ} 0 1 = cc in omega arith
+no_frame Vacant f e = never cc
+no_frame Private f e = never cc
+no_frame Shared f e = never cc
+no_frame Guarded f e = never cc
 
 not_bare : (b : Bool) (m : Kind) (f : ℕ) → write_framed f ≡ cond b (bare m) leave_other → ⊥
 not_bare true m f e = no_frame m f e
-not_bare false m f e = let z : ◌≡◌ {A = ℕ} 0 1 = cc in omega arith
+not_bare false m f e = never cc
 
 same_frame : (b : Bool) (f h : ℕ) → write_framed f ≡ cond b (write_framed h) leave_other → f ≡ h
 same_frame true f h e = cc
@@ -38,7 +38,7 @@ unfolding change_of
 with_frame o granule-state.Vacant f e = absurd (not_bare (is_of o.needs granule-state.Vacant) o.makes f e)
 with_frame o (granule-state.Frame s h) f e = (s, rw (same_frame (is_of o.needs (granule-state.Frame s h)) f h e))
 with_frame o granule-state.Guarded f e = absurd (not_bare (is_of o.needs granule-state.Guarded) o.makes f e)
-with_frame o granule-state.Damaged f e = let z : ◌≡◌ {A = ℕ} 0 1 = cc in absurd (omega arith)
+with_frame o granule-state.Damaged f e = never cc
 
 -- what holds of a granule that has frame f
 pub record FramePair (frames : List ℕ) (v g w : ℕ) (s : Bool) (f : ℕ) : Type 0 where
@@ -48,7 +48,7 @@ pub record FramePair (frames : List ℕ) (v g w : ℕ) (s : Bool) (f : ℕ) : Ty
 
 pub frame_pair : (frames : List ℕ) (v g w : ℕ) (s : Bool) (f : ℕ) → granule-state.Frame s f ≡ granule_state frames v g (map_word_of w) → FramePair frames v g w s f
 frame_pair frames v g w s f e =
-    let says : map_word_of w ≡ map-word.Frame s f = granule_says frames v g (map_word_of w) (granule-state.Frame s f) e (λ q. let z : ◌≡◌ {A = ℕ} 0 1 = cc in omega arith) in
+    let says : map_word_of w ≡ map-word.Frame s f = granule_says frames v g (map_word_of w) (granule-state.Frame s f) e (λ q. never cc) in
     let names = granule_names frames v g s f (e ∙ rw says) in
     record { word = says; owner = names.1; inside = names.0 }
 

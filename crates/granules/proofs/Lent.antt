@@ -17,6 +17,7 @@ use Rattle.tables.specs.Length.{width_of}
 use Rattle.tables.specs.Row.{bounds, bounds_of}
 use Rattle.pairs.specs.Pair.{granule_state}
 use Rattle.std.specs.declared.ops.Range.{Range}
+use Rattle.words.proofs.Booleans.{never}
 use Rattle.tables.proofs.RowLaws.{row_inside, bounds_slot}
 use Rattle.granules.specs.Kind.{word_with, GranuleChange, leave_damaged, leave_other, write_bare, write_framed, change_of}
 use Rattle.granules.specs.Step.{Place, place, Refusal, not_done, written, step_from, row_step, table_step}
@@ -38,8 +39,8 @@ words_after_lem (refuses r) = 0
 -- a step that is taken keeps the number of words
 written_length : (m : Kind) (v i : ℕ) (map frames : List ℕ) (g : ℕ) (d : GranuleChange) (t : Place) → written m v i map frames g d ≡ took t → length (row_at t) ≡ length map
 unfolding words_after_lem
-written_length m v i map frames g leave_damaged t e = let z : ◌≡◌ {A = ℕ} 0 1 = cc in absurd (omega arith)
-written_length m v i map frames g leave_other t e = let z : ◌≡◌ {A = ℕ} 0 1 = cc in absurd (omega arith)
+written_length m v i map frames g leave_damaged t e = never cc
+written_length m v i map frames g leave_other t e = never cc
 written_length m v i map frames g (write_bare w) t e = sym (ap words_after_lem e) ∙ length-set map i w
 written_length m v i map frames g (write_framed f) t e = sym (ap words_after_lem e) ∙ length-set map i (map_bits (word_with m f))
 

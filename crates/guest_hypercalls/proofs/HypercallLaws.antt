@@ -5,6 +5,7 @@ use mathlib.Core.List.{List}
 use Prim.Native.Nat.{ℕ, zero, suc, ◌<◌}
 use native.Mathlib.Omega.{arith}
 use lib.IntN.{pos}
+use Rattle.words.proofs.Booleans.{never}
 use Rattle.runs.specs.Run.{Stop, ended, run}
 use Rattle.runs.proofs.Runs.{StandsAt, run_none}
 use Rattle.answers.specs.Answer.{returned}
@@ -22,8 +23,8 @@ use Rattle.guest_hypercalls.specs.Calls.{done_answer, finished}
 -- a call that tells no number works on one granule
 pub untold_one : (n : Count) (x : ℕ) → is_told n ≡ false → granules_of n x ≡ 1
 untold_one One x h = refl
-untold_one Asked x h = let z : ◌≡◌ {A = ℕ} 0 1 = cc in absurd (omega arith)
-untold_one AskedOrOne x h = let z : ◌≡◌ {A = ℕ} 0 1 = cc in absurd (omega arith)
+untold_one Asked x h = never cc
+untold_one AskedOrOne x h = never cc
 
 -- what is told of granules that were done
 pub some_done : (e : Error) (t : Bool) (k : ℕ) (r : Stop Refusal) → 0 < k → returned (pos 0) (cond t k 0) ≡ done_answer e t k r

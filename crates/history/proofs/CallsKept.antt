@@ -3,7 +3,6 @@ use mathlib.Core.Path.{◌≡◌, refl, sym, ◌∙◌}
 use mathlib.Core.Bool.{true}
 use mathlib.Core.List.{List, [], ◌∷◌}
 use Prim.Native.Nat.{ℕ, ◌+◌, ◌*◌, ◌<◌}
-use native.Mathlib.Omega.{arith}
 use lib.ListN.{length, length-replicate, get_or-replicate}
 use Rattle.words.specs.MapWord.{map_bits}
 use Rattle.words.specs.FrameWord.{frame_bits}
@@ -11,7 +10,7 @@ use Rattle.words.specs.declared.map_word.MapWord.TheVariants as map-word
 use Rattle.words.specs.declared.frame_word.FrameWord.TheVariants as frame-word
 use Rattle.words.proofs.MapWordLaws.{map_decode_encode}
 use Rattle.words.proofs.FrameWordLaws.{frame_decode_encode}
-use Rattle.words.proofs.Booleans.{both_true}
+use Rattle.words.proofs.Booleans.{never, both_true}
 use Rattle.tables.specs.Length.{frames_hold, map_holds, lengths_hold}
 use Rattle.answers.specs.Answer.{numbers_of}
 use Rattle.records.specs.Monitor.{zero_guest, guest_of}
@@ -95,8 +94,8 @@ module _ (F W : ℕ) (bounds : lengths_hold F (8 * W) ≡ true) where
   fresh_sound = record {
     sized = record { bounds = bounds; frame_words = length-replicate F 0; map_words = length-replicate (8 * W) 0; guests = length-replicate 8 zero_guest };
     records = λ v h. rw (guest_fresh v) zero_sound;
-    whole = λ f h e. let y = sym (fresh_own f h) ∙ e in let z : ◌≡◌ {A = ℕ} 0 1 = cc in omega arith;
-    says = λ v b g f h e. let y = sym (fresh_own f h) ∙ e in let z : ◌≡◌ {A = ℕ} 0 1 = cc in absurd (omega arith);
-    says_back = λ v b g f h l e. let y = sym (fresh_look v g h l) ∙ e in let z : ◌≡◌ {A = ℕ} 0 1 = cc in absurd (omega arith);
+    whole = λ f h e. let y = sym (fresh_own f h) ∙ e in never cc;
+    says = λ v b g f h e. let y = sym (fresh_own f h) ∙ e in never cc;
+    says_back = λ v b g f h l e. let y = sym (fresh_look v g h l) ∙ e in never cc;
     holds = λ v g h l. rw (fresh_look v g h l);
   }

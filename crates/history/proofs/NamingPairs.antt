@@ -3,7 +3,6 @@ use mathlib.Core.Path.{◌≡◌, sym, ◌∙◌}
 use mathlib.Core.Logic.{◌≢◌}
 use mathlib.Core.Bool.{Bool, true, false, ◌&&◌}
 use Prim.Native.Nat.{ℕ}
-use native.Mathlib.Omega.{arith}
 use borrow.Author.Tests.{eq-eqb, eqb-true}
 use lib.Dec.{eqb}
 use Rattle.words.specs.declared.map_word.MapWord.{MapWord}
@@ -36,7 +35,7 @@ pub record NameOnlyEachOther (v g f : ℕ) (d : FrameWord) (e : MapWord) : Type 
   pub from : (b : Bool) (k : ℕ) → e ≡ map-word.Frame b k → (k ≡ f) × (d ≡ frame-word.Owned v b g)
 
 pub pair_named : (v g f : ℕ) (b : Bool) → NameOnlyEachOther v g f (frame-word.Owned v b g) (map-word.Frame b f)
-pair_named v g f b = record { whole = λ e. let z : ◌≡◌ {A = ℕ} 0 1 = cc in omega arith; to = λ u c h e. (cc, cc, cc); from = λ c k e. (cc, cc) }
+pair_named v g f b = record { whole = λ e. never cc; to = λ u c h e. (cc, cc, cc); from = λ c k e. (cc, cc) }
 
 -- neither names another
 abbrev pub FrameFree : FrameWord → Type 0

@@ -122,8 +122,7 @@ module _ {F W : ℕ} {s : State} (i : WordsSound F W s) (v : ℕ) (hv : v < 8) w
   unnamed : (u : ℕ) (b : Bool) (g f : ℕ) → g < W → eqb u v ≡ true → look W gone u g ≡ map-word.Frame b f → ⊥
   unnamed u b g f h e o =
       let vacant : look W gone u g ≡ map-word.Vacant = slot_gone u g h e in
-      let z : ◌≡◌ {A = ℕ} 0 1 = cc in
-      omega arith
+      never cc
 
   frame_gone : (f : ℕ) → f < F → owned_by v (own s f) ≡ true → own gone f ≡ frame-word.Waiting
   frame_gone f h e = own_gone f h true e
@@ -142,8 +141,8 @@ module _ {F W : ℕ} {s : State} (i : WordsSound F W s) (v : ℕ) (hv : v < 8) w
     holds_kept = λ u g l h e r. rw (guest_other s.monitor v u zero_guest (eqb-false u v e)) r;
     frames_within = λ u b g f h e o. rw o at e;
     granules_within = λ u b g f l h e o. rw (i.says_back u b g f l h o).1 e;
-    frames_sound = λ f h e q. let y : frame-word.Waiting ≡ frame-word.Damaged = sym (frame_gone f h e) ∙ q in let z : ◌≡◌ {A = ℕ} 0 1 = cc in omega arith;
-    frames_named_lem = λ u b g f h e o. let y : frame-word.Waiting ≡ frame-word.Owned u b g = sym (frame_gone f h e) ∙ o in let z : ◌≡◌ {A = ℕ} 0 1 = cc in absurd (omega arith);
+    frames_sound = λ f h e q. let y : frame-word.Waiting ≡ frame-word.Damaged = sym (frame_gone f h e) ∙ q in never cc;
+    frames_named_lem = λ u b g f h e o. let y : frame-word.Waiting ≡ frame-word.Owned u b g = sym (frame_gone f h e) ∙ o in never cc;
     granules_named = λ u b g f l h e o. absurd (unnamed u b g f h e o);
     granules_held = λ u g l h e. rw (slot_gone u g h e);
   })

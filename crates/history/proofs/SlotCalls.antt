@@ -9,6 +9,7 @@ use native.Mathlib.Omega.{arith}
 use borrow.Author.Tests.{ltb-true, eq-eqb}
 use lib.Dec.{eqb}
 use lib.ListN.{length, get_or}
+use Rattle.words.proofs.Booleans.{never}
 use Rattle.words.specs.MapWord.{map_bits, map_word_of}
 use Rattle.words.specs.declared.map_word.MapWord.TheVariants as map-word
 use Rattle.words.proofs.MapWordLaws.{map_encode_decode}
@@ -73,7 +74,7 @@ module _ {F W : ℕ} {s : State} (i : WordsSound F W s) where
       on g l (yes h) =
           let p = row_seen v g h l in
           let vacant = p.1 ∙ dead_row i v g h p.0 (dead h) in
-          sym (map_encode_decode (get_or (row_of s.map v) g 0) (λ q. let z : ◌≡◌ {A = ℕ} 0 1 = cc in omega arith)) ∙ ap map_bits vacant
+          sym (map_encode_decode (get_or (row_of s.map v) g 0) (λ q. never cc)) ∙ ap map_bits vacant
       on g l (no n) = absurd (omega (arith, row_length_none s.map v (omega arith)))
 
   pub row_undamaged_lem : (v : ℕ) → v < 8 → row_undamaged s.frames v (row_of s.map v) ≡ true

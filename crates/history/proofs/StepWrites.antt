@@ -4,10 +4,10 @@ use mathlib.Core.Logic.{◌≢◌}
 use mathlib.Core.Bool.{Bool, true, false, cond}
 use mathlib.Core.List.{List}
 use Prim.Native.Nat.{ℕ, suc, ◌<◌}
-use native.Mathlib.Omega.{arith}
 use borrow.Author.Tests.{ltb-true}
 use lib.Dec.{ltb}
 use lib.ListN.{length, set}
+use Rattle.words.proofs.Booleans.{never}
 use Rattle.runs.specs.Run.{took}
 use Rattle.words.specs.MapWord.{map_bits, map_word_of}
 use Rattle.words.specs.FrameWord.{frame_bits}
@@ -36,33 +36,33 @@ pub record WithoutFrame (o : Operation) (k : GranuleState) (w : ℕ) : Type 0 wh
 
 bare_kind : (m : Kind) (w : ℕ) → write_bare w ≡ bare m → (w ≡ map_bits (word_with m 0)) × NamesNone (word_with m 0)
 bare_kind Vacant w e = (cc, tt)
-bare_kind Private w e = let z : ◌≡◌ {A = ℕ} 0 1 = cc in absurd (omega arith)
-bare_kind Shared w e = let z : ◌≡◌ {A = ℕ} 0 1 = cc in absurd (omega arith)
+bare_kind Private w e = never cc
+bare_kind Shared w e = never cc
 bare_kind Guarded w e = (cc, tt)
 
 bare_if : (x : Bool) (m : Kind) (w : ℕ) → write_bare w ≡ cond x (bare m) leave_other → write_bare w ≡ bare m
 bare_if true m w e = e
-bare_if false m w e = let z : ◌≡◌ {A = ℕ} 0 1 = cc in absurd (omega arith)
+bare_if false m w e = never cc
 
 frame_if : (x : Bool) (f w : ℕ) → write_bare w ≡ cond x (write_framed f) leave_other → ⊥
-frame_if true f w e = let z : ◌≡◌ {A = ℕ} 0 1 = cc in omega arith
-frame_if false f w e = let z : ◌≡◌ {A = ℕ} 0 1 = cc in omega arith
+frame_if true f w e = never cc
+frame_if false f w e = never cc
 
 pub without_frame : (o : Operation) (k : GranuleState) (w : ℕ) → write_bare w ≡ change_of o k → WithoutFrame o k w
 unfolding change_of
 without_frame o granule-state.Vacant w e =
     let p = bare_kind o.makes w (bare_if (is_of o.needs granule-state.Vacant) o.makes w e) in
-    record { before = tt; undamaged = λ q. let z : ◌≡◌ {A = ℕ} 0 1 = cc in omega arith; word = p.0; after = p.1 }
+    record { before = tt; undamaged = λ q. never cc; word = p.0; after = p.1 }
 without_frame o (granule-state.Frame b f) w e = absurd (frame_if (is_of o.needs (granule-state.Frame b f)) f w e)
 without_frame o granule-state.Guarded w e =
     let p = bare_kind o.makes w (bare_if (is_of o.needs granule-state.Guarded) o.makes w e) in
-    record { before = tt; undamaged = λ q. let z : ◌≡◌ {A = ℕ} 0 1 = cc in omega arith; word = p.0; after = p.1 }
-without_frame o granule-state.Damaged w e = let z : ◌≡◌ {A = ℕ} 0 1 = cc in absurd (omega arith)
+    record { before = tt; undamaged = λ q. never cc; word = p.0; after = p.1 }
+without_frame o granule-state.Damaged w e = never cc
 
 -- a granule with a frame is not of a kind without one
 framed_if : (x : Bool) (f k : ℕ) → write_framed f ≡ cond x (write_framed k) leave_other → x ≡ true
 framed_if true f k e = refl
-framed_if false f k e = let z : ◌≡◌ {A = ℕ} 0 1 = cc in absurd (omega arith)
+framed_if false f k e = never cc
 
 pub framed : (o : Operation) (b : Bool) (f : ℕ) → write_framed f ≡ change_of o (granule-state.Frame b f) → has_frame o.needs ≡ true
 unfolding change_of
@@ -85,8 +85,8 @@ module _ (o : Operation) (v : ℕ) (map frames : List ℕ) (g : ℕ) (P : Place 
       (with_frame : (f : ℕ) → g < width_of (length map) → write_framed f ≡ change
       → P (place (set map i (map_bits (word_with o.makes f))) (set frames f (frame_bits (frame_then o.makes v g))) (suc g))) where
     by_change : g < width_of (length map) → (d : GranuleChange) → d ≡ change → (t : Place) → written o.makes v i map frames g d ≡ took t → P t
-    by_change h leave_damaged e t q = let z : ◌≡◌ {A = ℕ} 0 1 = cc in absurd (omega arith)
-    by_change h leave_other e t q = let z : ◌≡◌ {A = ℕ} 0 1 = cc in absurd (omega arith)
+    by_change h leave_damaged e t q = never cc
+    by_change h leave_other e t q = never cc
     by_change h (write_bare w) e t q = let p : place (set map i w) frames (suc g) ≡ t = cc in subst P p (bare w h e)
     by_change h (write_framed f) e t q =
         let p : place (set map i (map_bits (word_with o.makes f))) (set frames f (frame_bits (frame_then o.makes v g))) (suc g) ≡ t = cc in

@@ -29,15 +29,15 @@ use Rattle.history.proofs.PassedTests.{granule_undamaged_lem, below_width}
 
 -- a step refuses for damage only where its granule is damaged
 bare_undamaged : (x : Bool) (m : Kind) → cond x (bare m) leave_other ≢ leave_damaged
-bare_undamaged true Vacant e = let z : ◌≡◌ {A = ℕ} 0 1 = cc in omega arith
-bare_undamaged true Private e = let z : ◌≡◌ {A = ℕ} 0 1 = cc in omega arith
-bare_undamaged true Shared e = let z : ◌≡◌ {A = ℕ} 0 1 = cc in omega arith
-bare_undamaged true Guarded e = let z : ◌≡◌ {A = ℕ} 0 1 = cc in omega arith
-bare_undamaged false m e = let z : ◌≡◌ {A = ℕ} 0 1 = cc in omega arith
+bare_undamaged true Vacant e = never cc
+bare_undamaged true Private e = never cc
+bare_undamaged true Shared e = never cc
+bare_undamaged true Guarded e = never cc
+bare_undamaged false m e = never cc
 
 framed_undamaged : (x : Bool) (f : ℕ) → cond x (write_framed f) leave_other ≢ leave_damaged
-framed_undamaged true f e = let z : ◌≡◌ {A = ℕ} 0 1 = cc in omega arith
-framed_undamaged false f e = let z : ◌≡◌ {A = ℕ} 0 1 = cc in omega arith
+framed_undamaged true f e = never cc
+framed_undamaged false f e = never cc
 
 change_damaged : (o : Operation) (k : GranuleState) → granule_undamaged k ≡ true → change_of o k ≢ leave_damaged
 unfolding change_of
@@ -48,17 +48,17 @@ change_damaged o granule-state.Damaged h e = never h
 
 written_damaged : (k : Kind) (v i : ℕ) (map frames : List ℕ) (g : ℕ) (d : GranuleChange) → written k v i map frames g d ≡ refuses is_damaged → d ≡ leave_damaged
 written_damaged k v i map frames g leave_damaged e = refl
-written_damaged k v i map frames g leave_other e = let z : ◌≡◌ {A = ℕ} 0 1 = cc in absurd (omega arith)
-written_damaged k v i map frames g (write_bare w) e = let z : ◌≡◌ {A = ℕ} 0 1 = cc in absurd (omega arith)
-written_damaged k v i map frames g (write_framed f) e = let z : ◌≡◌ {A = ℕ} 0 1 = cc in absurd (omega arith)
+written_damaged k v i map frames g leave_other e = never cc
+written_damaged k v i map frames g (write_bare w) e = never cc
+written_damaged k v i map frames g (write_framed f) e = never cc
 
 refused_within : (x : Bool) (o : Step Place Refusal) → cond x o (refuses not_done) ≡ refuses is_damaged → (x ≡ true) × (o ≡ refuses is_damaged)
 refused_within true o e = (refl, e)
-refused_within false o e = let z : ◌≡◌ {A = ℕ} 0 1 = cc in absurd (omega arith)
+refused_within false o e = never cc
 
 -- a run that did nothing and was refused, was so at its first step
 pub first_refused : (step : Place → Step Place Refusal) (n : ℕ) (p q : Place) (r : Refusal) → run step n p ≡ ended 0 q (refused r) → step p ≡ refuses r
-first_refused step zero p q r e = let z : ◌≡◌ {A = ℕ} 0 1 = cc in absurd (omega arith)
+first_refused step zero p q r e = never cc
 first_refused step (suc n) p q r e = on (step p) refl e
   where
     more : (d : End Place Refusal) → one_more d ≡ ended 0 q (refused r) → ⊥

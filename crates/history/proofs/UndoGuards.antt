@@ -49,10 +49,10 @@ is_shared_frame (frame-word.Owned v b g) = b
 is_shared_frame frame-word.Damaged = false
 
 guarded? : (d : MapWord) → Dec (d ≡ map-word.Guarded)
-guarded? map-word.Vacant = no (λ e. let z : ◌≡◌ {A = ℕ} 0 1 = cc in omega arith)
-guarded? (map-word.Frame b f) = no (λ e. let z : ◌≡◌ {A = ℕ} 0 1 = cc in omega arith)
+guarded? map-word.Vacant = no (λ e. never cc)
+guarded? (map-word.Frame b f) = no (λ e. never cc)
 guarded? map-word.Guarded = yes refl
-guarded? map-word.Damaged = no (λ e. let z : ◌≡◌ {A = ℕ} 0 1 = cc in omega arith)
+guarded? map-word.Damaged = no (λ e. never cc)
 
 module _ (F W : ℕ) (bounds : lengths_hold F (8 * W) ≡ true) where
   abbrev NoneShared : State → Type 0
@@ -122,7 +122,7 @@ module _ (F W : ℕ) (bounds : lengths_hold F (8 * W) ≡ true) where
           (next (unguarded s i v g at.few at.below e) put.sound
           none
           (fewer (unguarded s i v g at.few at.below e)
-          (λ q. let y = sym put.granule ∙ q in let z : ◌≡◌ {A = ℕ} 0 1 = cc in omega arith)
+          (λ q. let y = sym put.granule ∙ q in never cc)
           (λ u h a b c d q. free u h a b d (sym (put.granules u h b c) ∙ q))))
       by (no e) next = next s i none (fewer s e (λ u h a b c d. free u h a b d))
 

@@ -3,8 +3,8 @@ use mathlib.Core.Path.{◌≡◌, refl, sym, ap, ◌∙◌}
 use mathlib.Core.Logic.{◌≢◌}
 use mathlib.Core.Bool.{Bool}
 use Prim.Native.Nat.{ℕ, ◌<◌}
-use native.Mathlib.Omega.{arith}
 use borrow.Author.Tests.{ne_eqb}
+use Rattle.words.proofs.Booleans.{never}
 use Rattle.words.specs.declared.map_word.MapWord.TheVariants as map-word
 use Rattle.words.specs.declared.frame_word.FrameWord.{FrameWord}
 use Rattle.words.specs.declared.frame_word.FrameWord.TheVariants as frame-word
@@ -29,8 +29,7 @@ module _ {F W : ℕ} {s : State} (i : WordsSound F W s) (v : ℕ) (slot : v < 8)
   unowned b g f h e =
       let p = i.says v b g f h e in
       let y = sym (row_vacant_lem g p.1) ∙ p.2 in
-      let z : ◌≡◌ {A = ℕ} 0 1 = cc in
-      omega arith
+      never cc
 
   pub owners_stay : (f : ℕ) → f < F → owner_gone v (own s f) ≡ own s f
   owners_stay f h = on (own s f) refl

@@ -3,7 +3,6 @@ use mathlib.Core.Path.{◌≡◌, refl, ◌∙◌}
 use mathlib.Core.Bool.{Bool, true, false, cond}
 use mathlib.Core.List.{List}
 use Prim.Native.Nat.{ℕ, ◌<◌}
-use native.Mathlib.Omega.{arith}
 use lib.Dec.{ltb}
 use borrow.Author.Tests.{ltb-true}
 use lib.ListN.{length, get_or}
@@ -12,7 +11,7 @@ use Rattle.words.specs.FrameWord.{frame_word_of, names_granule}
 use Rattle.words.specs.declared.map_word.MapWord.{MapWord}
 use Rattle.words.specs.declared.map_word.MapWord.TheVariants as map-word
 use Rattle.words.specs.declared.frame_word.FrameWord.TheVariants as frame-word
-use Rattle.words.proofs.Booleans.{both_true}
+use Rattle.words.proofs.Booleans.{never, both_true}
 use Rattle.words.proofs.MapWordLaws.{named_frame}
 use Rattle.words.proofs.FrameWordLaws.{named_granule}
 use Rattle.tables.specs.Length.{width_of}
@@ -49,7 +48,7 @@ module _ (frames : List ℕ) (v g : ℕ) where
   unfolding granule_state
   granule_names s f e =
       let named = names_granule v s g (frame_word_of (get_or frames f 0)) in
-      let t = passed (frame_names_back frames v s g f) (granule-state.Frame s f) granule-state.Damaged (λ q. let z : ◌≡◌ {A = ℕ} 0 1 = cc in omega arith) in
+      let t = passed (frame_names_back frames v s g f) (granule-state.Frame s f) granule-state.Damaged (λ q. never cc) in
       let p = both_true (ltb f (length frames)) named t in
       (ltb-true f (length frames) p.0, named_granule v s g (frame_word_of (get_or frames f 0)) p.1)
 
@@ -60,6 +59,6 @@ module _ (map : List ℕ) (f : ℕ) where
   unfolding frame_state
   frame_names v g s e =
       let named = names_frame s f (map_word_of (word_at map v g)) in
-      let t = passed (granule_names_back map v s g f) (frame-state.Owned v s g) frame-state.Damaged (λ q. let z : ◌≡◌ {A = ℕ} 0 1 = cc in omega arith) in
+      let t = passed (granule_names_back map v s g f) (frame-state.Owned v s g) frame-state.Damaged (λ q. never cc) in
       let p = both_true (ltb g (width_of (length map))) named t in
       (ltb-true g (width_of (length map)) p.0, named_frame s f (map_word_of (word_at map v g)) p.1)

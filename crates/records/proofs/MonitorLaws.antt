@@ -9,7 +9,7 @@ use borrow.Author.Tests.{lt-ltb, le-ltb, ltb-true}
 use lib.ListN.{length, length-set, get_or-replicate}
 use lib.Seq.{get_or-set_same, get_or-set_other, set-get_or, set-set}
 use lib.Dec.{ltb}
-use Rattle.words.proofs.Booleans.{and_false, both_true}
+use Rattle.words.proofs.Booleans.{never, and_false, both_true}
 use Rattle.records.specs.Monitor.{zero_guest, fresh, guest_of, with_guest, live_in}
 use Rattle.records.specs.declared.guest.Guest.{Guest}
 use Rattle.records.specs.declared.monitor.Monitor.{Monitor}
@@ -49,7 +49,7 @@ live_slot m v e = go (dec_lt v 8)
   where
     go : Dec (v < 8) → v < 8
     go (yes h) = h
-    go (no h) = let dead : (guest_of m v).live ≡ false = rw (le-ltb v 8 (omega arith)) in let z : ◌≡◌ {A = ℕ} 0 1 = cc in absurd (omega arith)
+    go (no h) = let dead : (guest_of m v).live ≡ false = rw (le-ltb v 8 (omega arith)) in never cc
 
 -- a record put in where it is already
 pub put_own : (m : Monitor) (v : ℕ) → with_guest m v (guest_of m v) ≡ m

@@ -1,6 +1,7 @@
 -- After some records of a piece, what is left of it comes to the rest of the outcome; their text has at most 21 bytes for each byte taken.
 use Rattle.std.proofs.Common.{Some, None, Ok, Err, ◌≡◌, ℕ, ◌+◌, ◌*◌, ◌≤◌, Bool, true, false, List, [], ◌∷◌, ◌++◌, length, drop, refl, ap, ◌∙◌, append_assoc, append-nil, arith, length-append, length-drop, drop-drop}
 use lib.Seq.{drop-length}
+use Rattle.words.proofs.Booleans.{never}
 use Rattle.answers.specs.Answer.{numbers_of}
 use Rattle.calls.specs.Step.{step}
 use Rattle.trace_records.specs.Record.{Decoded, decode_of}
@@ -41,7 +42,7 @@ text_by : (b : Bool) (r : Replay) (s : List ℕ) (d : Decoded) → decode_of s �
 unfolding decode_of
 text_by true r s d e = omega arith
 text_by false r s (Ok (Some g)) e = omega (arith, (record_size s g.call g.size e).0, line_length (Answer (numbers_of (step g.call r.state).answer)))
-text_by false r [] (Err b) e = let z : ◌≡◌ {A = ℕ} 0 1 = cc in absurd (omega arith)
+text_by false r [] (Err b) e = never cc
 text_by false r (x ∷ s) (Err b) e = omega arith
 text_by false r s (Ok None) e = omega arith
 

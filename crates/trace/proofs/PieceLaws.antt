@@ -2,6 +2,7 @@
 use Rattle.std.proofs.Common.{Some, None, Ok, Err, ◌≡◌, ℕ, zero, suc, ◌<◌, ◌≤◌, Bool, true, false, List, [], ◌∷◌, ◌++◌, length, drop, sym, refl, ap, ◌∙◌, append_assoc, append-nil, arith, length-drop}
 use mathlib.Core.List.{append_cancel_left, flatten}
 use lib.Seq.{drop-length}
+use Rattle.words.proofs.Booleans.{never}
 use Rattle.trace_records.specs.Record.{Decoded, decode_of}
 use Rattle.trace_records.proofs.DecodeLaws.{unfinished_size}
 use Rattle.trace.specs.Replay.{Replay, ReplayOutcome, unless_stopped, advance_of, outcome, text_before, outcome_of, closing, pieces_text}
@@ -52,7 +53,7 @@ pieces_joined (p ∷ ps) r held h =
 left_by : (b : Bool) (r : Replay) (s : List ℕ) (d : Decoded) → decode_of s ≡ d → (unless_stopped b r s d).more ≡ false
     → length (drop (unless_stopped b r s d).taken s) < 37
 left_by true r s d q e = rw (drop-length s) (omega arith)
-left_by false r s (Ok (Some g)) q e = let z : ◌≡◌ {A = ℕ} 0 1 = cc in absurd (omega arith)
+left_by false r s (Ok (Some g)) q e = never cc
 left_by false r s (Err b) q e = rw (drop-length s) (omega arith)
 left_by false r s (Ok None) q e = unfinished_size s q
 

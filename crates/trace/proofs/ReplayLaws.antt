@@ -1,6 +1,7 @@
 -- A replay of some bytes goes on from where it got, whatever bytes follow: good and bad records stay so when more bytes come.
 use Rattle.std.proofs.Common.{Some, None, Ok, Err, ◌≡◌, ℕ, zero, suc, ◌<◌, ◌≤◌, Bool, true, false, List, [], ◌∷◌, ◌++◌, length, drop, sym, refl, ◌∙◌, arith, length-drop}
 use lib.Seq.{drop-append-le, drop-length}
+use Rattle.words.proofs.Booleans.{never}
 use Rattle.trace_records.specs.Record.{Decoded, decode_of}
 use Rattle.trace_records.proofs.DecodeLaws.{record_size, record_stays}
 use Rattle.trace_records.proofs.BadLaws.{bad_stays}
@@ -15,10 +16,10 @@ advance_decoded r s d e q = rw (e, q)
 took_by : (b : Bool) (r : Replay) (s : List ℕ) (d : Decoded) → decode_of s ≡ d
     → ((unless_stopped b r s d).taken ≤ length s)
     × ((unless_stopped b r s d).more ≡ true → 0 < (unless_stopped b r s d).taken)
-took_by true r s d e = (omega arith, λ h. (let z : ◌≡◌ {A = ℕ} 0 1 = cc in absurd (omega arith)))
+took_by true r s d e = (omega arith, λ h. (never cc))
 took_by false r s (Ok (Some g)) e = let size = record_size s g.call g.size e in (omega arith, λ h. omega arith)
-took_by false r s (Err b) e = (omega arith, λ h. (let z : ◌≡◌ {A = ℕ} 0 1 = cc in absurd (omega arith)))
-took_by false r s (Ok None) e = (omega arith, λ h. (let z : ◌≡◌ {A = ℕ} 0 1 = cc in absurd (omega arith)))
+took_by false r s (Err b) e = (omega arith, λ h. (never cc))
+took_by false r s (Ok None) e = (omega arith, λ h. (never cc))
 
 pub took : (r : Replay) (s : List ℕ) → ((advance_of r s).taken ≤ length s) × ((advance_of r s).more ≡ true → 0 < (advance_of r s).taken)
 unfolding advance_of

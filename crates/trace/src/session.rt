@@ -28,7 +28,7 @@ pub struct Session {
     pub monitor: Monitor,
     // The number of answered records.
     pub answered: u64,
-    // A record was bad, and what follows is passed over.
+    // A record was bad, and what follows is passed over. A state of its own: both counts and tables stand beside it, in `Replay` too.
     pub stopped: bool,
 }
 
@@ -83,6 +83,7 @@ impl Session {
                     return bytes.len();
                 }
                 Ok(Some(Record { call, size })) => {
+                    // One record is copied, and where there is no slot any: by `Monitor::guest` and `with_change`, which copy all, a replay is slower.
                     let slot = call.slot(self.monitor);
                     let at = (slot % 8) as usize;
                     let guest = self.monitor.guests[at];
@@ -98,7 +99,7 @@ impl Session {
         taken
     }
 
-    // The text is then the last lines, with so many bytes held.
+    // Makes the text the last lines: `bad` first where bytes are held.
     pub fn close(self, held: usize, text: &mut Text)
         ensures { text.new ≡ with_put (cleared text.old) (closing self.answered held) }
     {

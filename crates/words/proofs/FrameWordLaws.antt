@@ -10,7 +10,7 @@ use borrow.Author.Tests.{eq-eqb, ne_eqb, le-leb, eqb-true, eqb-false, leb-true}
 use Rattle.words.specs.FrameWord.{sharing_byte, frame_bits, owned_by, frame_word_of, names_granule}
 use Rattle.words.specs.declared.frame_word.FrameWord.{FrameWord}
 use Rattle.words.specs.declared.frame_word.FrameWord.TheVariants.{Host, Waiting, Owned, Damaged}
-use Rattle.words.proofs.Booleans.{both_true, beq_true, beq_self, false_unless}
+use Rattle.words.proofs.Booleans.{never, both_true, beq_true, beq_self, false_unless}
 use Rattle.words.proofs.Packing.{flipped}
 use Rattle.words.proofs.WordTest.{by_built, by_mask}
 
@@ -103,7 +103,7 @@ named_itself v s g = rw (eq-eqb v v refl, beq_self s, eq-eqb g g refl)
 pub names_granule_built : (v : ℕ) (s : Bool) (g : ℕ) → v < 8 → g < 2 ^ 16 → (w : ℕ) → names_granule v s g (frame_word_of w) ≡ eqb w (frame_bits (Owned v s g))
 names_granule_built v s g hv hg =
     by_built frame_bits frame_word_of (names_granule v s g) (Owned v s g) (frame_decode_encode (Owned v s g) (hv, hg)) (named_itself v s g) (named_granule v s g)
-    (λ w e. frame_encode_decode w (λ d. let z : ◌≡◌ {A = ℕ} 0 1 = cc in omega arith))
+    (λ w e. frame_encode_decode w (λ d. never cc))
 
 owned_fits : (a b g : ℕ) → g < 2 ^ 16 → FrameFits (owned_by a b g)
 owned_fits a b g h = go (leb 1 a && (leb a 8 && leb b 1)) refl
@@ -166,5 +166,5 @@ pub frame_reshared : (from to : Bool) (w v g : ℕ) → frame_word_of w ≡ Owne
     → cond same w (bit_xor w 0x10000) ≡ frame_bits (Owned v to g)
 frame_reshared from to w v g e =
     let fit : (v < 8) × (g < 2 ^ 16) = rw e at (frame_fits w) in
-    let built : w ≡ frame_bits (Owned v from g) = sym (frame_encode_decode w (λ d. let z : ◌≡◌ {A = ℕ} 0 1 = cc in omega arith)) ∙ ap frame_bits e in
+    let built : w ≡ frame_bits (Owned v from g) = sym (frame_encode_decode w (λ d. never cc)) ∙ ap frame_bits e in
     by_mask (λ s. frame_bits (Owned v s g)) 0x10000 (sharing_flipped v g true false fit.1 refl) (sharing_flipped v g false true fit.1 refl) from to w built

@@ -11,7 +11,7 @@ use borrow.Author.Tests.{eq-eqb, ne_eqb, eqb-true, eqb-false}
 use Rattle.words.specs.MapWord.{map_bits, map_word_of, names_frame, bare_word, is_bare}
 use Rattle.words.specs.declared.map_word.MapWord.{MapWord}
 use Rattle.words.specs.declared.map_word.MapWord.TheVariants.{Vacant, Frame, Guarded, Damaged}
-use Rattle.words.proofs.Booleans.{both_true, beq_true, beq_self, false_unless}
+use Rattle.words.proofs.Booleans.{never, both_true, beq_true, beq_self, false_unless}
 use Rattle.words.proofs.Packing.{packed, flipped, flipped_none}
 use Rattle.words.proofs.WordTest.{by_built, by_mask}
 
@@ -76,7 +76,7 @@ named_itself s f = rw (beq_self s, eq-eqb f f refl)
 pub names_frame_built : (s : Bool) (f : ℕ) → f < 2 ^ 16 → (w : ℕ) → names_frame s f (map_word_of w) ≡ eqb w (map_bits (Frame s f))
 names_frame_built s f h =
     by_built map_bits map_word_of (names_frame s f) (Frame s f) (map_decode_encode (Frame s f) h) (named_itself s f) (named_frame s f)
-    (λ w e. map_encode_decode w (λ d. let z : ◌≡◌ {A = ℕ} 0 1 = cc in omega arith))
+    (λ w e. map_encode_decode w (λ d. never cc))
 
 -- a word of kind 1 or 2 is a frame's, unless a bit between kind and frame is set
 pub frame_said : (w : ℕ) → w / 2 ^ 30 ≢ 0 → w / 2 ^ 30 < 3 → bit_and (w / 2 ^ 16) 0x3FFF ≡ 0 → Frame (eqb (w / 2 ^ 30) 2) (w % 2 ^ 16) ≡ map_word_of w
@@ -126,7 +126,7 @@ frame_bits_lem false f h = packed 30 1 f (omega arith) h
 
 -- a word that says a frame is the one built for it
 frame_built : (s : Bool) (f w : ℕ) → map_word_of w ≡ Frame s f → w ≡ map_bits (Frame s f)
-frame_built s f w e = sym (map_encode_decode w (λ d. let z : ◌≡◌ {A = ℕ} 0 1 = cc in omega arith)) ∙ ap map_bits e
+frame_built s f w e = sym (map_encode_decode w (λ d. never cc)) ∙ ap map_bits e
 
 -- a word without the bits of kind k is f exactly if it is f with those bits
 without_kind : (k w f : ℕ) → f < 2 ^ 30 → eqb (bit_xor w (k * 2 ^ 30)) f ≡ eqb w (k * 2 ^ 30 + f)
@@ -178,5 +178,5 @@ bare_built b = by_built map_bits map_word_of (is_bare b) (bare_word b) (there b)
     only b Damaged h = cc
 
     whole : (b : Bool) (w : ℕ) → map_word_of w ≡ bare_word b → map_word_of w ≡ Damaged → ⊥
-    whole true w e d = let z : ◌≡◌ {A = ℕ} 0 1 = cc in omega arith
-    whole false w e d = let z : ◌≡◌ {A = ℕ} 0 1 = cc in omega arith
+    whole true w e d = never cc
+    whole false w e d = never cc

@@ -55,7 +55,7 @@ impl MapWord {
     }
 
     // The word of the frame in this one, which says it as `from` tells, private or shared as `to` tells. Of kinds 1 and 2 each is the other
-    // with both bits changed.
+    // with both bits changed. One helper for both kinds of words would be as long as the lines that it replaces.
     pub fn reshared(word: u32, from: bool, to: bool) -> u32
         ensures { (f : ℕ) → map_word_of word ≡ MapWord.Frame from f → result ≡ map_bits (MapWord.Frame to f) }
     {
