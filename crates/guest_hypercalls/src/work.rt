@@ -13,6 +13,7 @@ use tables::row_bounds;
 use words::Granule;
 
 // Granules of a slot from the one at this base upward. The slot's row is lent on as a part of the map table that begins in its middle.
+// A type for a slot below 8 would be made and taken apart at this one call.
 #[tactic(auto, using(tables::proofs::RowLaws::in_order))]
 pub(crate) fn change_row(
     frames: &mut [u32],

@@ -28,7 +28,7 @@ pub struct Session {
     pub monitor: Monitor,
     // The number of answered records.
     pub answered: u64,
-    // A record was bad, and what follows is passed over. A state of its own: both counts and tables stand beside it, in `Replay` too.
+    // A record was bad, and what follows is passed over. A state of its own, which `Replay` has too: the records and the count stand beside it.
     pub stopped: bool,
 }
 
