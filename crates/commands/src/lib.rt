@@ -6,5 +6,5 @@
 mod admission;
 mod decision;
 
-pub use admission::check;
+pub use admission::{check, check_after};
 pub use decision::{Decision, Reply};

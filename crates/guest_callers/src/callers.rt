@@ -3,7 +3,7 @@ ghost use Rattle.commands.specs.Tests.{first_refusal, refusal_by};
 ghost use Rattle.guest_callers.specs.Callers.{caller_tests};
 
 use answers::Answer;
-use commands::check;
+use commands::{check, check_after};
 use records::Guest;
 use tables::lengths_hold;
 
@@ -12,7 +12,7 @@ use tables::lengths_hold;
 pub fn caller_admission(frames: &[u32], map: &[u32], slot: u64, guest: Guest) -> Result<(), Answer>
     ensures { refusal_by result ≡ first_refusal (caller_tests frames.now map.now slot guest) }
 {
-    check(lengths_hold(frames.len(), map.len()), Answer::BadLength)?;
-    check(guest.lives_in(slot), Answer::NoGuest)?;
-    check(guest.run, Answer::NeverRun)
+    let lengths = check(lengths_hold(frames.len(), map.len()), Answer::BadLength);
+    let live = check_after(lengths, guest.lives_in(slot), Answer::NoGuest);
+    check_after(live, guest.run, Answer::NeverRun)
 }

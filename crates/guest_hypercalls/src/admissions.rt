@@ -8,7 +8,8 @@ use commands::check;
 use functions::Registers;
 use records::Guest;
 
-// The tests of a hypercall's row: registers, then what the record must say.
+// The tests of a hypercall's row: registers, then what the record must say. By `?`, since with `check_after` every hypercall takes some twenty
+// instructions more.
 pub(crate) fn row_admission(row: CallRow, registers: Registers, guest: Guest) -> Result<(), Answer>
     ensures { refusal_by result ≡ first_refusal (row_tests row registers guest) }
 {

@@ -5,7 +5,7 @@ ghost use Rattle.commands.specs.Command.{view, tests_of, result_with, result_of}
 ghost use Rattle.host_donation.specs.Calls.{donate_command, donate_of};
 
 use answers::Answer;
-use commands::{Decision, Reply, check};
+use commands::{Decision, Reply, check, check_after};
 use pairs::{pair_at, pair_of};
 use records::{Guest, Monitor};
 use tables::{lengths_hold, row_bounds, row_width};
@@ -64,17 +64,18 @@ fn donate_admission(
 ) -> Result<(), Answer>
     ensures { refusal_by result ≡ first_refusal (tests_of (donate_command slot frame granule) (view frames.now map.now slot guest)) }
 {
-    check(lengths_hold(frames.len(), map.len()), Answer::BadLength)?;
-    check(guest.lives_in(slot), Answer::NoGuest)?;
-    check((frame as usize) < frames.len(), Answer::OutOfRange)?;
-    check(
+    let lengths = check(lengths_hold(frames.len(), map.len()), Answer::BadLength);
+    let live = check_after(lengths, guest.lives_in(slot), Answer::NoGuest);
+    let given = check_after(live, (frame as usize) < frames.len(), Answer::OutOfRange);
+    check_after(
+        given,
         (granule as usize) < row_width(map.len()),
         Answer::OutOfRange,
     )?;
     let here = pair_at(map, frames, slot, Granule(granule));
     check(here.is_undamaged(), Answer::Damaged)?;
     let there = pair_of(map, frames, frame);
-    check(there.is_undamaged(), Answer::Damaged)?;
-    check(there.is_host(), Answer::InUse)?;
-    check(here.is_vacant(), Answer::InUse)
+    let whole = check(there.is_undamaged(), Answer::Damaged);
+    let hosts = check_after(whole, there.is_host(), Answer::InUse);
+    check_after(hosts, here.is_vacant(), Answer::InUse)
 }

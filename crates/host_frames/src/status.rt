@@ -7,7 +7,7 @@ ghost use Rattle.records.specs.declared.monitor.Monitor.{Monitor};
 ghost use Rattle.host_frames.specs.Calls.{range_tests, cleared_command, cleared_of, access_command, host_access_of};
 
 use answers::Answer;
-use commands::{Decision, check};
+use commands::{Decision, check, check_after};
 use pairs::{FrameState, pair_of};
 use tables::lengths_hold;
 use words::FrameWord;
@@ -73,6 +73,6 @@ pub fn decide_access(frames: &[u32], map: &[u32], frame: u64) -> Decision
 fn range_admission(frames: &[u32], map: &[u32], frame: u64) -> Result<(), Answer>
     ensures { refusal_by result ≡ first_refusal (length_tests both_tables frames.now map.now ++ range_tests (length frames.now) frame) }
 {
-    check(lengths_hold(frames.len(), map.len()), Answer::BadLength)?;
-    check((frame as usize) < frames.len(), Answer::OutOfRange)
+    let lengths = check(lengths_hold(frames.len(), map.len()), Answer::BadLength);
+    check_after(lengths, (frame as usize) < frames.len(), Answer::OutOfRange)
 }

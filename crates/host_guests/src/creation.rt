@@ -6,7 +6,7 @@ ghost use Rattle.records.specs.declared.guest.Guest.{Guest};
 ghost use Rattle.host_guests.specs.Calls.{create_tests, create_command, create_of, run_command, run_of};
 
 use answers::Answer;
-use commands::{Decision, Reply, check};
+use commands::{Decision, Reply, check, check_after};
 use records::{Change, Guest, Monitor};
 use rows::row_vacant;
 use tables::{lengths_hold, row};
@@ -56,6 +56,6 @@ fn create_admission(frames: &[u32], map: &[u32], slot: u64) -> Result<(), Answer
     ensures { refusal_by result ≡ first_refusal (length_tests both_tables frames.now map.now ++ create_tests map.now slot) }
 {
     check(lengths_hold(frames.len(), map.len()), Answer::BadLength)?;
-    check(row_vacant(row(map, slot)), Answer::Damaged)?;
-    check(slot < 8, Answer::NoFreeSlot)
+    let whole = check(row_vacant(row(map, slot)), Answer::Damaged);
+    check_after(whole, slot < 8, Answer::NoFreeSlot)
 }

@@ -5,7 +5,7 @@ ghost use Rattle.commands.specs.Command.{view, tests_of, result_with, result_of}
 ghost use Rattle.host_guests.specs.Calls.{show_command, shown_by, show_of};
 
 use answers::Answer;
-use commands::{Decision, check};
+use commands::{Decision, check, check_after};
 use records::{Change, Guest, Monitor};
 use tables::{map_length_holds, row};
 
@@ -52,6 +52,6 @@ pub fn decide_show(guest: Guest, map: &[u32], slot: u64) -> Decision
 fn show_admission(map: &[u32], guest: Guest, slot: u64) -> Result<(), Answer>
     ensures { refusal_by result ≡ first_refusal (tests_of (show_command slot) (view [] map.now slot guest)) }
 {
-    check(map_length_holds(map.len()), Answer::BadLength)?;
-    check(guest.lives_in(slot), Answer::NoGuest)
+    let length = check(map_length_holds(map.len()), Answer::BadLength);
+    check_after(length, guest.lives_in(slot), Answer::NoGuest)
 }

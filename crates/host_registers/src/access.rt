@@ -6,7 +6,7 @@ ghost use Rattle.host_registers.specs.Registers.{read_tests, write_tests, read_c
 
 use crate::registers::{is_known, limit, numbered};
 use answers::Answer;
-use commands::{Decision, Reply, check};
+use commands::{Decision, Reply, check, check_after};
 use records::{Change, FirmwareRegister, Guest, Monitor};
 
 // The host reads a firmware register of the guest in a slot. It answers for any slot number, register number and records.
@@ -55,8 +55,8 @@ pub fn decide_register_write(guest: Guest, slot: u64, number: u64, value: u64) -
 fn read_admission(guest: Guest, slot: u64, register: FirmwareRegister) -> Result<(), Answer>
     ensures { refusal_by result ≡ first_refusal (live_tests slot guest ++ read_tests register) }
 {
-    check(guest.lives_in(slot), Answer::NoGuest)?;
-    check(is_known(register), Answer::RegisterRefused(-2))
+    let live = check(guest.lives_in(slot), Answer::NoGuest);
+    check_after(live, is_known(register), Answer::RegisterRefused(-2))
 }
 
 // The tests of a write: those of a read, no bit outside the limit, a guest that was not run.
@@ -68,7 +68,7 @@ fn write_admission(
 ) -> Result<(), Answer>
     ensures { refusal_by result ≡ first_refusal (live_tests slot guest ++ write_tests register value guest) }
 {
-    read_admission(guest, slot, register)?;
-    check(value <= limit(register), Answer::RegisterRefused(-22))?;
-    check(!guest.run, Answer::RegisterRefused(-16))
+    let read = read_admission(guest, slot, register);
+    let within = check_after(read, value <= limit(register), Answer::RegisterRefused(-22));
+    check_after(within, !guest.run, Answer::RegisterRefused(-16))
 }

@@ -7,7 +7,7 @@ ghost use Rattle.rows.specs.WholeRow.{vacant_row, frames_freed, frames_named};
 ghost use Rattle.host_removal.specs.Calls.{remove_command, remove_of};
 
 use answers::Answer;
-use commands::{Decision, Reply, check};
+use commands::{Decision, Reply, check, check_after};
 use records::{Change, Guest, Monitor};
 use rows::{row_undamaged, vacate};
 use tables::{lengths_hold, row, row_bounds};
@@ -42,8 +42,8 @@ pub fn decide_remove(guest: Guest, frames: &mut [u32], map: &mut [u32], slot: u6
 fn remove_admission(frames: &[u32], map: &[u32], slot: u64, guest: Guest) -> Result<(), Answer>
     ensures { refusal_by result ≡ first_refusal (tests_of (remove_command slot) (view frames.now map.now slot guest)) }
 {
-    check(lengths_hold(frames.len(), map.len()), Answer::BadLength)?;
-    check(guest.lives_in(slot), Answer::NoGuest)?;
+    let lengths = check(lengths_hold(frames.len(), map.len()), Answer::BadLength);
+    check_after(lengths, guest.lives_in(slot), Answer::NoGuest)?;
     check(
         row_undamaged(row(map, slot), frames, slot as usize),
         Answer::Damaged,
