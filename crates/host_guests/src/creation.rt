@@ -1,4 +1,4 @@
-ghost use Rattle.std.specs.Prelude.{◌≡◌, List, ◌++◌, ℕ};
+ghost use Rattle.std.specs.Prelude.{◌≡◌, true, List, ◌++◌, ℕ};
 ghost use Rattle.commands.specs.State.{state, answered};
 ghost use Rattle.commands.specs.Tests.{first_refusal, refusal_by};
 ghost use Rattle.commands.specs.Command.{view, both_tables, length_tests, result_with, result_of};
@@ -20,6 +20,14 @@ pub fn create(monitor: Monitor, frames: &[u32], map: &[u32], legacy: bool) -> Re
 {
     let slot = monitor.free_slot();
     decide_create(frames, map, slot, legacy).reply(monitor, slot)
+}
+
+// A guest that knows no ranges is created.
+pub fn create_legacy(monitor: Monitor, frames: &[u32], map: &[u32]) -> Reply
+    ensures { answered (state frames.now map.now result.monitor) result.answer
+        ≡ create_of true (state frames.now map.now monitor) }
+{
+    create(monitor, frames, map, true)
 }
 
 // What create decides of the slot that it would take: the lowest that is not live, or 8. It looks at no record, so the equation holds with any.

@@ -6,5 +6,5 @@
 mod creation;
 mod views;
 
-pub use creation::{create, decide_create, decide_run, run};
+pub use creation::{create, create_legacy, decide_create, decide_run, run};
 pub use views::{decide_show, show, show_row, show_verdict};
