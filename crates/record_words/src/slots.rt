@@ -40,6 +40,9 @@ pub fn put_change(words: &mut [u64; ALL_RECORDS_WORDS], slot: u64, change: Chang
     if 8 <= slot {
         return;
     }
+    if !change.alters() {
+        return;
+    }
     let guest = guest_in(words, slot);
     let own = <[u64; GUEST_WORDS]>::from(change.apply(guest));
     if <[u64; GUEST_WORDS]>::from(guest) != own {
