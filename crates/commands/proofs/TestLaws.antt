@@ -1,7 +1,7 @@
 -- Tests in their order: where they refuse nothing, each has passed; those made one after another are those of one list.
 use mathlib.Core.Path.{◌≡◌, refl}
 use mathlib.Core.Bool.{Bool, true, false, cond}
-use mathlib.Core.List.{[], ◌∷◌}
+use mathlib.Core.List.{[], ◌∷◌, ◌++◌}
 use mathlib.Core.Option.{Option, none, some}
 use Rattle.commands.specs.Tests.{Tests, first_refusal, afterwards}
 
@@ -34,3 +34,8 @@ after_first false q r ts us h = after_some r ts
 pub tests_in_order : {A : Type 0} (ts : Tests A) → all_after none ts ≡ first_refusal ts
 tests_in_order [] = refl
 tests_in_order (t ∷ ts) = after_first t.0 none t.1 ts ts (tests_in_order ts)
+
+-- and tests made after those of a list are those of both lists joined
+pub tests_in_order_after : {A : Type 0} (ts us : Tests A) → all_after (first_refusal ts) us ≡ first_refusal (ts ++ us)
+tests_in_order_after [] us = tests_in_order us
+tests_in_order_after (t ∷ ts) us = after_first t.0 (first_refusal ts) t.1 us (ts ++ us) (tests_in_order_after ts us)
