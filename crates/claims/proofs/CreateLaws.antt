@@ -16,6 +16,7 @@ use Rattle.commands.specs.State.{State}
 use Rattle.commands.specs.Tests.{first_refusal}
 use Rattle.commands.specs.Command.{host_success, change_record, unless_refused, effected}
 use Rattle.records.specs.declared.change.Change.TheVariants.{Created}
+use Rattle.records.specs.declared.guest.Guest.{Guest}
 use Rattle.records.specs.declared.monitor.Monitor.{Monitor}
 use Rattle.answers.specs.declared.answer.Answer.TheVariants.{BadLength, Damaged, NoFreeSlot}
 use Rattle.rows.specs.WholeRow.{row_vacant}
@@ -87,3 +88,22 @@ none_left m v n e = rw e
 
 pub all_live_lem : (m : Monitor) (v : ℕ) → free_slot m ≡ free_from m v (8 - v) → 8 ≤ v → v ≡ free_slot m
 all_live_lem m v e h = sym (e ∙ none_left m v (8 - v) (omega arith))
+
+-- where the slots before v are live, and slot v is looked at
+from_here : (m : Monitor) (v : ℕ) → v < 8 → free_from m v (8 - v) ≡ cond (guest_of m v).live (free_from m (v + 1) (8 - (v + 1))) v
+unfolding free_from
+from_here m v h =
+    let n : 8 - v ≡ suc (7 - v) = omega arith in
+    let k : 8 - (v + 1) ≡ 7 - v = omega arith in
+    let s : suc v ≡ v + 1 = omega arith in
+    rw (n, k, s)
+
+module _ (m : Monitor) (v : ℕ) (e : free_slot m ≡ free_from m v (8 - v)) (h : v < 8) (g : Guest) (s : g ≡ guest_of m v) where
+  slot_here : free_slot m ≡ cond g.live (free_from m (v + 1) (8 - (v + 1))) v
+  slot_here = rw s (e ∙ from_here m v h)
+
+  pub free_here : g.live ≡ false → v ≡ free_slot m
+  free_here f = sym (rw f at slot_here)
+
+  pub free_later : g.live ≡ true → free_slot m ≡ free_from m (v + 1) (8 - (v + 1))
+  free_later l = rw l at slot_here
