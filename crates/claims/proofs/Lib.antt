@@ -18,3 +18,4 @@ pub mod ShowLaws
 pub mod RemovalCounts
 pub mod RunLaws
 pub mod DecidingLaws
+pub mod PassLaws
