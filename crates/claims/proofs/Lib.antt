@@ -19,3 +19,4 @@ pub mod RemovalCounts
 pub mod RunLaws
 pub mod DecidingLaws
 pub mod PassLaws
+pub mod SignLaws
