@@ -1,1 +1,2 @@
 pub mod RecordKindLaws
+pub mod ByteLaws

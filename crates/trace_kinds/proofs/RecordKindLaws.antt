@@ -2,11 +2,11 @@
 use mathlib.Core.Path.{◌≡◌, refl}
 use mathlib.Core.Bool.{Bool, true, false, ◌||◌}
 use mathlib.Core.List.{List, [], ◌∷◌, map}
-use Prim.Native.Nat.{ℕ, suc, zero, ◌+◌, ◌≤◌}
+use Prim.Native.Nat.{ℕ, suc, zero, ◌+◌, ◌-◌, ◌≤◌, ◌<◌}
 use native.Mathlib.Omega.{arith}
 use borrow.Author.Tests.{ltb-true, eqb-true}
 use lib.Dec.{eqb, ltb}
-use lib.ListN.{get_or}
+use lib.ListN.{length, get_or, drop}
 use Rattle.trace_kinds.specs.RecordKind.{kinds, kind_of, length_of, some_length}
 use Rattle.trace_kinds.specs.declared.kinds.RecordKind.{RecordKind}
 use Rattle.trace_kinds.specs.declared.kinds.RecordKind.TheVariants.{Hypercall}
@@ -23,6 +23,23 @@ at_place (k ∷ ks) (suc i) = at_place ks i
 pub kind_placed : (n i : ℕ) → n ≡ i + 1 → kind_of n ≡ slice_get kinds i
 unfolding kind_of
 kind_placed n i e = let next : n ≡ suc i = omega arith in rw next (at_place kinds i)
+
+kind_at : (ks : List RecordKind) (n : ℕ) (d : RecordKind) → n < length ks → get_or (map Some ks) n None ≡ Some (get_or ks n d)
+kind_at [] n d h = absurd (omega arith)
+kind_at (k ∷ ks) zero d h = refl
+kind_at (k ∷ ks) (suc n) d h = kind_at ks n d (omega arith)
+
+pub numbered : (n : ℕ) (d : RecordKind) → 0 < n → n ≤ length kinds → kind_of n ≡ Some (get_or kinds (n - 1) d)
+unfolding kind_of
+numbered zero d l h = absurd (omega arith)
+numbered (suc n) d l h = let before : suc n - 1 ≡ n = omega arith in rw before (kind_at kinds n d (omega arith))
+
+-- looking at one kind more
+pub some_step : (ks : List RecordKind) (i n : ℕ) (d : RecordKind) → i < length ks
+    → list_any (λ k. eqb (length_of k) n) (drop i ks) ≡ eqb (length_of (get_or ks i d)) n || list_any (λ k. eqb (length_of k) n) (drop (suc i) ks)
+some_step [] i n d h = absurd (omega arith)
+some_step (k ∷ ks) zero n d h = refl
+some_step (k ∷ ks) (suc i) n d h = some_step ks i n d (omega arith)
 
 -- what is computed to hold of every kind of the list holds of the kind that a number stands for
 found_in : (p : RecordKind → Bool) (ks : List RecordKind) (n : ℕ) (k : RecordKind) → list_all p ks ≡ true → get_or (map Some ks) n None ≡ Some k → p k ≡ true
