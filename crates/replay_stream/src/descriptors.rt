@@ -33,9 +33,10 @@ pub(crate) fn read_behind<R: Read>(from: &mut R, input: &mut Input) -> Result<us
     ensures read { IfOk result (Reads (R.remaining from.old) (R.remaining from.new) input.old.text input.new.text) }
 {
     let bytes = &mut input.bytes[..];
-    match from.read(&mut bytes[input.filled..]) {
+    let held = input.filled.min(bytes.len());
+    match from.read(&mut bytes[held..]) {
         Ok(count) => {
-            input.filled += count;
+            input.filled = held + count;
             Ok(count)
         }
         Err(_) => Err(Stop::Unread),

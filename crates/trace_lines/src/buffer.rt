@@ -3,7 +3,8 @@ ghost use Rattle.trace_lines.specs.Filled.{filled_to, cleared, with_put};
 
 use std::marker::Model;
 
-// Bytes one behind the other, in fixed memory.
+// Bytes one behind the other, in fixed memory: the first of an array, so many as `filled` says. Any number may stand there. Where it is beyond
+// the array, all of the array counts.
 #[derive(Drop)]
 pub struct Buffer<const ROOM: usize> {
     pub bytes: [u8; ROOM],
@@ -11,14 +12,11 @@ pub struct Buffer<const ROOM: usize> {
 }
 
 impl<const ROOM: usize> Model for Buffer<ROOM> {
-    ghost use Rattle.std.specs.Prelude.{◌≡◌, ◌≤◌, length};
     ghost use Rattle.trace_lines.specs.Filled.{Filled, filled_to};
 
     ghost Value = { Filled };
 
     ghost view = { λ b. filled_to b.filled b.bytes };
-
-    ghost invariant = { λ b. (b.filled ≤ ROOM) × (length b.bytes ≡ ROOM) };
 }
 
 impl<const ROOM: usize> Buffer<ROOM> {
@@ -42,7 +40,7 @@ impl<const ROOM: usize> Buffer<ROOM> {
         ensures bytes { result.now ≡ self.now.text }
         ensures fits { length self.now.text ≤ ROOM }
     {
-        &self.bytes[..self.filled]
+        &self.bytes[..self.filled.min(ROOM)]
     }
 
     pub fn clear(&mut self)
@@ -56,7 +54,7 @@ impl<const ROOM: usize> Buffer<ROOM> {
     pub fn consume(&mut self, count: usize)
         ensures { self.new.text ≡ drop count self.old.text }
     {
-        let end = self.filled;
+        let end = self.filled.min(ROOM);
         let start = count.min(end);
         self.bytes.copy_within(start..end, 0);
         self.filled = end - start;
@@ -66,7 +64,7 @@ impl<const ROOM: usize> Buffer<ROOM> {
         requires { length self.old.text + length bytes.now ≤ ROOM }
         ensures { self.new ≡ with_put self.old bytes.now }
     {
-        let start = self.filled;
+        let start = self.filled.min(ROOM);
         let end = start + bytes.len();
         let all = &mut self.bytes[..];
         all[start..end].copy_from_slice(bytes);
