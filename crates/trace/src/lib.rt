@@ -5,4 +5,4 @@
 
 mod session;
 
-pub use session::{FRAMES, Input, MAP_WORDS, Session};
+pub use session::{FRAMES, Input, MAP_WORDS, PIECE, Session};

@@ -17,7 +17,7 @@ pub const FRAMES: usize = 256;
 pub const MAP_WORDS: usize = 512;
 
 // The bytes of a log that can be at hand at the most. The lines of their records have room in a text.
-const PIECE: usize = 6236;
+pub const PIECE: usize = 6236;
 
 // The bytes of a log that are at hand.
 pub type Input = Buffer<PIECE>;

@@ -6,4 +6,4 @@ mod buffer;
 mod lines;
 
 pub use buffer::Buffer;
-pub use lines::{Line, Text};
+pub use lines::{Line, ROOM, Text};

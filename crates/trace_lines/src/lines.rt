@@ -6,7 +6,7 @@ use crate::buffer::Buffer;
 use answers::Numbers;
 
 // The bytes that a text can have at the most.
-const ROOM: usize = 131072;
+pub const ROOM: usize = 131072;
 
 // The bytes of the longest line: five numbers of 20 digits, each with the byte behind it.
 const LONGEST: usize = 105;
