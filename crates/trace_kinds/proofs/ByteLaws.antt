@@ -5,6 +5,7 @@ use Prim.Native.Nat.{ℕ, suc, zero, ◌<◌}
 use native.Mathlib.Omega.{arith}
 use lib.ListN.{length, get_or}
 
+-- so what stands for one that is not may be any number
 pub read_within : (s : List ℕ) (i d e : ℕ) → i < length s → get_or s i d ≡ get_or s i e
 read_within [] i d e h = absurd (omega arith)
 read_within (x ∷ xs) zero d e h = refl

@@ -77,7 +77,7 @@ unfolding decimal
 same_numeral n zero f p = absurd (omega arith)
 same_numeral n (suc j) f p = same_digits j 20 n f.1 (λ h. rw sub-one at (f.2 (omega arith))) p
 
-digits_decimal : (n k : ℕ) → Fits w64 n → IsDigitCount 10 1 n k → last_digits 10 k n ≡ decimal n
+pub digits_decimal : (n k : ℕ) → Fits w64 n → IsDigitCount 10 1 n k → last_digits 10 k n ≡ decimal n
 digits_decimal n k h f = same_numeral n k f (digits_few n k h f)
 
 -- they are put, and a byte behind them
