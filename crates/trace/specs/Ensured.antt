@@ -14,7 +14,7 @@ use Rattle.trace.specs.Replay.{Replay, replay, outcome, outcome_of}
 abbrev pub kept : Session → List ℕ → List ℕ → Replay
 kept s frames map = replay (state frames map s.monitor) s.answered s.stopped
 
--- of a call that comes to o: the tables and the change are its own, and its line stands behind the text
+-- of a call that comes to o: the tables and the change are its own, and its line stands behind the text where there is room for the longest line
 pub record Answers (o : Result) (frames map : List ℕ) (before after : Filled) (change : Change) : Type 0 where
   pub frames_left : frames ≡ o.frames
   pub map_left : map ≡ o.map
