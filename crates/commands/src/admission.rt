@@ -3,8 +3,8 @@ ghost use Rattle.commands.specs.Tests.{afterwards, first_refusal, refusal_by};
 
 use answers::Answer;
 
-// One test: it holds, or the call is refused with this answer. Where a test looks at what an earlier one has to rule out first, it follows by
-// `?`; else by `check_after`.
+// One test: it holds, or the call is refused with this answer. Others follow by `check_after`, or by `?`, where they are not to be looked at
+// once it failed.
 pub fn check(holds: bool, refusal: Answer) -> Result<(), Answer>
     ensures { refusal_by result ≡ first_refusal ((holds, refusal) ∷ []) }
 {
